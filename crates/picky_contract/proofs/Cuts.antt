@@ -1,0 +1,61 @@
+-- A text has one cut at its first, or last, such byte.
+use Rattle.std.proofs.Common.{◌≡◌, ◌≢◌, ℕ, ◌<◌, ◌≤◌, ◌+◌, List, [], ◌∷◌, ◌++◌, length, take, drop, eqb, Option, Some, None, IfSome, IsSomeAnd, refl, sym, subst, ◌∙◌, Bor}
+use Rattle.std.specs.Option.{MatchOption}
+use Rattle.std.specs.Str.{NoCharPasses}
+use Rattle.std.specs.Str.Pattern.{RFindsChar}
+use Rattle.std.proofs.lemmas.List.{take-append-drop}
+use Rattle.std.proofs.lemmas.List.Elements.{All-head, All-tail, All-from_get_or}
+use Rattle.std.proofs.lemmas.Str.Pattern.{IsSplitOnceResult, split_parts, split_after, NoCharPasses-char, drop_at_char}
+use Rattle.picky_contract.specs.Text.{Lacks, IsCutAtFirst, IsCutAtLast}
+
+-- a text that lacks a byte has it nowhere inside
+pub lacks-inside : (c : ℕ) (front back : List ℕ) → Lacks c (front ++ c ∷ back) → ⊥
+lacks-inside c [] back h = All-head (λ b. b ≢ c) c back h refl
+lacks-inside c (x ∷ front) back h = lacks-inside c front back (All-tail (λ b. b ≢ c) x (front ++ c ∷ back) h)
+
+pub found_first : (c : ℕ) (bs : List ℕ) (r : Option (Bor (List ℕ) × Bor (List ℕ))) → IsSplitOnceResult c bs r → c < 128
+    → IfSome r (λ x. IsCutAtFirst c bs x.0.now x.1.now)
+found_first c bs None h lt = tt
+found_first c bs (Some x) h lt =
+    let p = split_parts c bs (Some x) h lt in
+    record { joined = p.0; lacks = All-from_get_or (λ b. b ≢ c) x.0.now 0 p.1 }
+
+pub every_first : (c : ℕ) (bs : List ℕ) (r : Option (Bor (List ℕ) × Bor (List ℕ))) → IsSplitOnceResult c bs r → c < 128
+    → (front back : List ℕ) → IsCutAtFirst c bs front back → IsSomeAnd r (λ x. (x.0.now ≡ front) × (x.1.now ≡ back))
+every_first c bs None h lt front back cut = split_after c bs front back None h lt cut.joined (λ i l. cut.lacks i 0 l)
+every_first c bs (Some x) h lt front back cut = split_after c bs front back (Some x) h lt cut.joined (λ i l. cut.lacks i 0 l)
+
+-- the clause of `rsplit_once` at a character
+abbrev pub IsSplitLastResult : ℕ → List ℕ → Option (Bor (List ℕ) × Bor (List ℕ)) → Type 0
+IsSplitLastResult c bs r = MatchOption r (RFindsChar c bs None) (λ x. (i : ℕ) × (j : ℕ) × RFindsChar c bs (Some (i, j)) × (x.0.now ≡ take i bs) × (x.1.now ≡ drop j bs) × (i ≤ j) × (length x.0.now ≡ i) × (length x.1.now + j ≡ length bs))
+
+lacks_from_none : (c : ℕ) (bs : List ℕ) → NoCharPasses (λ d. eqb d c) bs → c < 128 → Lacks c bs
+lacks_from_none c bs h lt = All-from_get_or (λ b. b ≢ c) bs 0 (λ i l. NoCharPasses-char c bs i h lt l)
+
+pub found_last : (c : ℕ) (bs : List ℕ) (r : Option (Bor (List ℕ) × Bor (List ℕ))) → IsSplitLastResult c bs r → c < 128
+    → IfSome r (λ x. IsCutAtLast c bs x.0.now x.1.now)
+found_last c bs None h lt = tt
+found_last c bs (Some x) (i, j, finds, front, back, le, front_len, back_len) lt =
+    let at : drop i bs ≡ c ∷ drop j bs = drop_at_char c bs i j finds.1 lt in
+    record {
+      joined = rw (front, back, ← at) (sym (take-append-drop i bs));
+      lacks = subst (Lacks c) (sym back) (lacks_from_none c (drop j bs) finds.0 lt);
+    }
+
+-- two cuts at the last such byte are one
+pub last-once : (c : ℕ) (a x b y : List ℕ) → a ++ c ∷ x ≡ b ++ c ∷ y → Lacks c x → Lacks c y → (a ≡ b) × (x ≡ y)
+last-once c [] x [] y e hx hy = (refl, cc)
+last-once c [] x (d ∷ b) y e hx hy = let t : x ≡ b ++ c ∷ y = cc in absurd (lacks-inside c b y (subst (Lacks c) t hx))
+last-once c (d ∷ a) x [] y e hx hy = let t : y ≡ a ++ c ∷ x = cc in absurd (lacks-inside c a x (subst (Lacks c) t hy))
+last-once c (d ∷ a) x (f ∷ b) y e hx hy =
+    let t : a ++ c ∷ x ≡ b ++ c ∷ y = cc in
+    let p = last-once c a x b y t hx hy in
+    let head : d ≡ f = cc in
+    (cc (p.0), p.1)
+
+pub every_last : (c : ℕ) (bs : List ℕ) (r : Option (Bor (List ℕ) × Bor (List ℕ))) → IsSplitLastResult c bs r → c < 128
+    → (front back : List ℕ) → IsCutAtLast c bs front back → IsSomeAnd r (λ x. (x.0.now ≡ front) × (x.1.now ≡ back))
+every_last c bs None h lt front back cut = lacks-inside c front back (subst (Lacks c) cut.joined (lacks_from_none c bs h lt))
+every_last c bs (Some x) h lt front back cut =
+    let p : IsCutAtLast c bs x.0.now x.1.now = found_last c bs (Some x) h lt in
+    last-once c x.0.now x.1.now front back (sym p.joined ∙ cut.joined) p.lacks cut.lacks
