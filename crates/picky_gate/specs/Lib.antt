@@ -3,3 +3,10 @@ pub mod TextMap
 pub mod Shelf
 pub mod Command
 pub mod Asked
+pub mod Entry
+pub mod Ring
+pub mod Bearer
+pub mod Claims
+pub mod Admissible
+pub mod Refusals
+pub mod Seen
