@@ -5,3 +5,7 @@ pub mod TextMaps
 pub mod ClaimsLemmas
 pub mod Vouching
 pub mod Admitting
+pub mod Rings
+pub mod Delivery
+pub mod Deciding
+pub mod Theorem

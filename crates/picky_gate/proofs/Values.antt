@@ -3,7 +3,7 @@ use Rattle.std.proofs.Common.{◌≡◌, ◌<◌, ◌≤◌, ◌++◌, List, [],
 use Rattle.std.proofs.lemmas.List.{take_all}
 use Rattle.picky_gate.specs.Command.{Text, values_under, texts_of, Admit, AsksAdmit, IsCommand}
 use Rattle.picky_gate.specs.Asked.{AreValues, admit_of}
-use Rattle.picky_gate.specs.declared.words.AdmitWords.{AdmitWords}
+use Rattle.picky_gate.specs.declared.asked.AdmitWords.{AdmitWords}
 use Rattle.picky_gate.specs.declared.words.Values.{Values}
 use Rattle.picky_gate.specs.declared.words.Values.TheVariants.{Absent, One, Many}
 

@@ -1,6 +1,6 @@
 -- The values of the words as the code lends them (own).
 use Rattle.std.specs.Prelude.{◌≡◌, ◌≤◌, List, [], ◌∷◌, length}
-use Rattle.picky_gate.specs.declared.words.AdmitWords.{AdmitWords}
+use Rattle.picky_gate.specs.declared.asked.AdmitWords.{AdmitWords}
 use Rattle.picky_gate.specs.declared.words.Values.{Values}
 use Rattle.picky_gate.specs.declared.words.Values.TheVariants.{Absent, One, Many}
 use Rattle.picky_gate.specs.Command.{Text, Admit}

@@ -10,3 +10,9 @@ pub mod Claims
 pub mod Admissible
 pub mod Refusals
 pub mod Seen
+pub mod Moment
+pub mod Faults
+pub mod Documents
+pub mod Lines
+pub mod Reply
+pub mod Headline

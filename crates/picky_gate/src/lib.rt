@@ -5,11 +5,16 @@
 #![tactic(auto)]
 
 mod admission;
+mod asked;
 mod bearer;
 mod cabinet;
 mod claims;
+mod documents;
 mod files;
+mod first_ring;
+mod lines;
 mod policy;
+mod program;
 mod ring;
 mod sink;
 mod stdio;
@@ -17,9 +22,11 @@ mod text_map;
 mod words;
 
 pub use admission::{Admitted, Refusal, admit};
+use asked::AdmitWords;
 pub use cabinet::{Cabinet, FetchFault, MemoryCabinet};
 pub use files::FileCabinet;
 pub use policy::Policy;
+pub use program::{Status, run};
 pub use ring::{KeyName, KeysFault, Ring, RingEntry};
 pub use sink::{Failed, MemorySink, Sink};
 pub use stdio::StdSink;

@@ -4,14 +4,7 @@ ghost use Rattle.std.specs.Str.{all_ascii_digits};
 ghost use Rattle.picky_gate.specs.Command.{Admit, IsCommand, AsksAdmit, ArePairs, IsFlag, IsMoment, texts_of, values_under};
 ghost use Rattle.picky_gate.specs.Asked.{AreValues, admit_of};
 
-/// What `admit` is asked: the paths of its documents, the text and the moment.
-#[derive(Clone, Copy)]
-pub struct AdmitWords<'a> {
-    pub keys: &'a str,
-    pub records: &'a str,
-    pub text: &'a str,
-    pub now: u64,
-}
+use crate::AdmitWords;
 
 /// How many values stand under a flag, and the value where there is one.
 #[derive(Clone, Copy)]
