@@ -126,11 +126,11 @@ impl JwkSet {
     pub fn clone(&self, alloc: Global) -> Result<JwkSet, AllocError>
         ensures { IfOk result (λ copy. set_view copy ≡ set_view self.now) }
     {
-        let mut keys = Vec::new(alloc);
+        let mut copies = Vec::new(alloc);
         for key in &self.keys {
-            keys.push(key.clone(alloc)?)?;
+            copies.push(key.clone(alloc)?)?;
         }
-        Ok(JwkSet { keys })
+        Ok(JwkSet { keys: copies })
     }
 
     /// Reads a set of the first form: a JSON object with the one member `keys`, a list of objects
