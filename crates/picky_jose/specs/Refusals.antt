@@ -1,4 +1,6 @@
 -- The reading of a signed token (RFC 7515, section 7.1), and why a text has none, in order.
+--
+-- The cut and the three spellings are whole; the header is of the first form, which `FirstHeaderOf` alone says.
 use Rattle.std.specs.Prelude.{◌≡◌, ℕ, List}
 use Rattle.serde_json.specs.Data.{Data}
 use Rattle.picky_contract.specs.Refusals.{Table, the, need, done, ◌>>=◌}
@@ -36,7 +38,7 @@ token_table token = do
   payload ← the (B64 Url parts.payload) not_base64
   done (record { header = header; payload = payload; signature = signature })
 
--- x is the reading of the token
+-- x is the reading of the token, with a header of the first form
 pub record TokenReading (x : Reading) (token : List ℕ) : Type 0 where
   pub parts : Parts
   pub joined : PartsOf token parts
@@ -49,6 +51,6 @@ pub record TokenReading (x : Reading) (token : List ℕ) : Type 0 where
   pub signature : B64 Url parts.signature x.signature
   pub payload : B64 Url parts.payload x.payload
 
--- the signed bytes of a token that was read: those before its last dot, as they stand
+-- the JWS signing input of a token that was read (RFC 7515, section 5.1): the bytes before its last dot, as they stand
 abbrev pub signed_bytes : {x : Reading} → {token : List ℕ} → TokenReading x token → List ℕ
 signed_bytes r = signed_part r.parts

@@ -1,15 +1,13 @@
 -- When a signature is accepted (RFC 7518, sections 3.1 and 3.4; RFC 8037, section 3.1), and why not, in order.
-use Rattle.std.specs.Prelude.{◌≡◌, ℕ, List, length, IsTrue, ⊤, Option, Some, None, Result, Ok, Err}
+use Rattle.std.specs.Prelude.{◌≡◌, ℕ, List, length, ⊤, Option, Some, None, Result, Ok, Err}
 use Rattle.picky_contract.specs.Refusals.{Table, the, need, named, ◌>>=◌}
 use Rattle.picky_base64.specs.Base64.{B64}
 use Rattle.picky_base64.specs.declared.Form.TheVariants.{Url}
 use Rattle.picky_key.specs.declared.key.PublicKeyKind.{PublicKeyKind}
 use Rattle.picky_key.specs.declared.algorithm.SignatureAlgorithm.{SignatureAlgorithm}
-use Rattle.picky_key.specs.declared.algorithm.SignatureAlgorithm.TheVariants.{RsaPkcs1v15, Ecdsa, Ed25519}
-use Rattle.picky_key.specs.declared.algorithm.HashAlgorithm.{HashAlgorithm}
+use Rattle.picky_key.specs.declared.algorithm.SignatureAlgorithm.TheVariants.{RsaPkcs1v15, Ed25519}
 use Rattle.picky_key.specs.declared.algorithm.HashAlgorithm.TheVariants.{SHA2_256, SHA2_384, SHA2_512}
 use Rattle.picky_key.specs.declared.error.SignatureError.{SignatureError}
-use Rattle.picky_key.specs.Family.{is_of_family}
 use Rattle.picky_jwk.specs.declared.alg.JwsAlg.{JwsAlg}
 use Rattle.picky_jwk.specs.declared.alg.JwsAlg.TheVariants as alg
 use Rattle.picky_jose.specs.declared.signature.Asked.{Asked}
@@ -35,13 +33,14 @@ abbrev pub Relation : Type 1
 Relation = PublicKeyKind → SignatureAlgorithm → List ℕ → List ℕ → Type 0
 
 -- The relation holds of the key, the name's algorithm, the signed bytes and the signature. Of an ECDSA
--- name the size is looked at first; no key of the forms so far is of the ECDSA family.
+-- name the size is looked at first; it has no more than that yet: no key so far is of the ECDSA family,
+-- and a relation holds only within a family.
 unfoldable pub vouched_table : Relation → PublicKeyKind → Asked → List ℕ → List ℕ → Table ⊤ SignatureFault
 vouched_table signs key Nothing signed s = need ⊥ unsupported
 vouched_table signs key (Plain algorithm) signed s = need (signs key algorithm signed s) bad
 vouched_table signs key (Numbers hash size) signed s = do
   fits ← need (length s ≡ size) (ec_size size (length s))
-  need (IsTrue (is_of_family (Ecdsa hash) key)) bad
+  need ⊥ bad
 
 -- the rows of `vouched_table`, as refusals of a token
 abbrev pub vouched_rows : Relation → PublicKeyKind → JwsAlg → List ℕ → List ℕ → Table ⊤ JwsFault

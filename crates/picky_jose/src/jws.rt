@@ -9,7 +9,7 @@ use crate::header::{JwsHeader, header_from};
 use crate::signature::check_signature;
 use picky_base64::Form;
 use picky_key::{KeyProvider, PublicKey};
-use std::alloc::Global;
+use std::alloc::{AllocError, Global};
 use std::borrow::CowStr;
 
 /// A signed token whose signature holds: its header and its payload.
@@ -17,6 +17,20 @@ use std::borrow::CowStr;
 pub struct Jws {
     pub header: JwsHeader,
     pub payload: Vec<u8>,
+}
+
+impl Jws {
+    ghost use Rattle.picky_jose.specs.Views.{jws_content};
+
+    /// A copy, in memory of its own.
+    pub fn clone(&self, alloc: Global) -> Result<Jws, AllocError>
+        ensures { IfOk result (λ copy. jws_content copy ≡ jws_content self.now) }
+    {
+        Ok(Jws {
+            header: self.header.clone(alloc)?,
+            payload: self.payload.to_vec(alloc)?,
+        })
+    }
 }
 
 /// A signed token that was read and not verified: its text, its header and its signature.
@@ -72,6 +86,20 @@ impl<'repr> RawJws<'repr> {
             header,
             signature,
             payload,
+        })
+    }
+
+    /// A copy, in memory of its own.
+    pub fn clone(&self, alloc: Global) -> Result<RawJws<'static>, AllocError>
+        ensures text { IfOk result (λ copy. text_of copy ≡ text_of self.now) }
+        ensures reading { IfOk result (λ copy. reading_of copy ≡ reading_of self.now) }
+    {
+        let text = String::from_str(alloc, self.compact_repr.as_str())?;
+        Ok(RawJws {
+            compact_repr: CowStr::Owned(text),
+            header: self.header.clone(alloc)?,
+            signature: self.signature.to_vec(alloc)?,
+            payload: self.payload.to_vec(alloc)?,
         })
     }
 

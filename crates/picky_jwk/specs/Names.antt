@@ -1,5 +1,5 @@
--- Names of JWS algorithms (RFC 7518, section 3.1; RFC 8037, section 3.1), and the algorithm that each name means.
-use Rattle.std.specs.Prelude.{ℕ, List, codes, Option, Some, None}
+-- Names of JWS algorithms (RFC 7518, section 3.1; RFC 8037, section 3.1; `ED25519` is own, a second name of Ed25519).
+use Rattle.std.specs.Prelude.{ℕ, List, codes}
 use Rattle.picky_jwk.specs.declared.alg.JwsAlg.{JwsAlg}
 use Rattle.picky_jwk.specs.declared.alg.JwsAlg.TheVariants as alg
 

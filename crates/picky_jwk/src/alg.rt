@@ -2,7 +2,8 @@
 ghost use Rattle.std.specs.Prelude.{◌≡◌};
 ghost use Rattle.picky_jwk.specs.Names.{alg_name};
 
-/// The name of a JWS algorithm (RFC 7518, section 3.1; RFC 8037, section 3.1).
+/// The name of a JWS algorithm (RFC 7518, section 3.1; RFC 8037, section 3.1); `ED25519` is a second
+/// name of Ed25519, which no RFC has.
 #[derive(Clone, Copy, Debug, PartialEq, Eq, Hash)]
 pub enum JwsAlg {
     HS256,

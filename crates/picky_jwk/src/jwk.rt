@@ -1,5 +1,5 @@
 // Keys and sets.
-ghost use Rattle.std.specs.Prelude.{◌≡◌, IfOk, List};
+ghost use Rattle.std.specs.Prelude.{◌≡◌, IfOk, List, string_bytes};
 ghost use Rattle.picky_contract.specs.Refusals.{Meets, OkOrMemory};
 ghost use Rattle.picky_jwk.specs.Jwk.{jwk_view, key_type_view, set_view, Jwk as JwkView};
 ghost use Rattle.picky_jwk.specs.Keys.{FirstKeysOf};
@@ -56,7 +56,45 @@ impl From<JwkEdPublicKeyAlgorithm> for EdAlgorithm {
     }
 }
 
+impl JwkPublicEdKey {
+    /// A copy, in memory of its own.
+    pub fn clone(&self, alloc: Global) -> Result<JwkPublicEdKey, AllocError>
+        ensures crv { IfOk result (λ copy. copy.crv ≡ self.now.crv) }
+        ensures x { IfOk result (λ copy. string_bytes copy.x ≡ string_bytes self.now.x) }
+    {
+        Ok(JwkPublicEdKey {
+            crv: self.crv,
+            x: String::from_str(alloc, &self.x)?,
+        })
+    }
+}
+
+impl JwkKeyType {
+    /// A copy, in memory of its own.
+    pub fn clone(&self, alloc: Global) -> Result<JwkKeyType, AllocError>
+        ensures { IfOk result (λ copy. key_type_view copy ≡ key_type_view self.now) }
+    {
+        match self {
+            JwkKeyType::Ed(key) => Ok(JwkKeyType::Ed(key.clone(alloc)?)),
+        }
+    }
+}
+
 impl Jwk {
+    /// A copy, in memory of its own.
+    pub fn clone(&self, alloc: Global) -> Result<Jwk, AllocError>
+        ensures { IfOk result (λ copy. jwk_view copy ≡ jwk_view self.now) }
+    {
+        let kid = match &self.kid {
+            Some(kid) => Some(String::from_str(alloc, kid)?),
+            None => None,
+        };
+        Ok(Jwk {
+            key: self.key.clone(alloc)?,
+            kid,
+        })
+    }
+
     /// The public key: the 32 bytes that `x` spells.
     ///
     /// `Base64Decoding` exactly where `x` isn't strict unpadded base64url, `InvalidEdPublicKey`
@@ -83,6 +121,18 @@ impl Jwk {
 }
 
 impl JwkSet {
+    /// A copy, in memory of its own.
+    #[tactic(auto, using(crate::proofs::Copies::one_more, crate::proofs::Copies::all_copied))]
+    pub fn clone(&self, alloc: Global) -> Result<JwkSet, AllocError>
+        ensures { IfOk result (λ copy. set_view copy ≡ set_view self.now) }
+    {
+        let mut copies = Vec::new(alloc);
+        for key in &self.keys {
+            copies.push(key.clone(alloc)?)?;
+        }
+        Ok(JwkSet { keys: copies })
+    }
+
     /// Reads a set of the first form: a JSON object with the one member `keys`, a list of objects
     /// with exactly the members `kty` (`OKP`), `crv` (`Ed25519`), `x` (strict unpadded base64url of
     /// 32 bytes) and `kid` (a text), no two with the same `kid`.
