@@ -9,3 +9,4 @@ pub mod Rings
 pub mod Delivery
 pub mod Deciding
 pub mod Theorem
+pub mod Once

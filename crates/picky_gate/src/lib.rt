@@ -12,6 +12,7 @@ mod claims;
 mod documents;
 mod files;
 mod first_ring;
+pub mod laws;
 mod lines;
 mod policy;
 mod program;
