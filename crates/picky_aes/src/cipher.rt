@@ -33,10 +33,10 @@ fn decrypt(keys: &[u8; 240], rounds: usize, block: &mut [u8; 16])
     add_bytes(block, &keys[16 * rounds + 16..16 * rounds + 32]);
     unshift_rows(block);
     unsub_bytes(block);
-    let mut r = rounds;
-    while r > 0 {
-        r -= 1;
-        add_bytes(block, &keys[16 * r + 16..16 * r + 32]);
+    let mut left = rounds;
+    while left > 0 {
+        left -= 1;
+        add_bytes(block, &keys[16 * left + 16..16 * left + 32]);
         unmix_columns(block);
         unshift_rows(block);
         unsub_bytes(block);
