@@ -57,6 +57,13 @@ pub Ghash_from-none : (h y : List Bool) → y ≡ Ghash_from h y []
 unfolding Ghash_from
 Ghash_from-none h y = refl
 
+pub Ghash-none : (h : List Bool) → Ghash h [] ≡ zeros 128
+unfolding Ghash_from
+Ghash-none h = refl
+
+pub Ghash-more : (h : List Bool) (xs : List (List Bool)) (x : List Bool) → Ghash h (xs ++ x ∷ []) ≡ Mul (plus (Ghash h xs) x) h
+Ghash-more h xs x = Ghash_from-append h (zeros 128) xs (x ∷ []) ∙ Ghash_from-one h (Ghash h xs) x
+
 -- the hash y and the block x added and multiplied by the key
 pub hashed-more : (h y : List Bool) (bytes : List ℕ) (k z x w : ℕ) → coefficients 128 z ≡ Ghash_from h y (map (block_at bytes) (range_with_len 0 k))
     → coefficients 128 x ≡ block_at bytes k → coefficients 128 w ≡ Mul (coefficients 128 (bit_xor z x)) h

@@ -1,4 +1,4 @@
-pub mod Laws
+pub mod Walk
 pub mod Numbers
 pub mod Digits
 pub mod Hashing

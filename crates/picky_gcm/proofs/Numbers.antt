@@ -6,7 +6,7 @@ use Rattle.std.proofs.lemmas.Bool.{cases_lt}
 use Rattle.std.proofs.lemmas.Nat.Bits.{bit_at-lt, bit_at-suc, bit_at_above, bit_at_lowest, bit_at_xor}
 use Rattle.std.proofs.lemmas.List.{drop_all, drop_more}
 use Rattle.picky_gcm.specs.Polynomial.{Mul, coefficients, odd, plus, scale, tail, times_x, zeros}
-use Rattle.picky_gcm.proofs.Laws.{Mul-walk, length-tail, length-walk, plus-zeros, plus-zeros_right, plus_assoc, scale_false, scale_true, walk}
+use Rattle.picky_gcm.proofs.Walk.{Mul-walk, length-tail, length-walk, plus-zeros, plus-zeros_right, plus_assoc, scale_false, scale_true, walk}
 
 odd_bits : (p q : ℕ) → p < 2 → q < 2 → ((p + q) % 2 == 1) ≡ odd (p == 1) (q == 1)
 odd_bits p q hp hq = elim (cases_lt p 1) [

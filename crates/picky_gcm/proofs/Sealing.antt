@@ -56,6 +56,9 @@ seal-tag key nonce aad text s e = ap (tag_of key nonce aad) (sym (ap (λ (s : Se
 pub seal-back : (key nonce aad text : List ℕ) (s : Sealed) → Seal key nonce aad text ≡ s → counted key nonce s.text ≡ text
 seal-back key nonce aad text s e = ap (counted key nonce) (sym (seal-text key nonce aad text s e)) ∙ counted_twice key nonce text
 
+pub seal-alone : (key nonce aad a b : List ℕ) → Seal key nonce aad a ≡ Seal key nonce aad b → a ≡ b
+seal-alone key nonce aad a b e = sym (seal-back key nonce aad a (Seal key nonce aad b) e) ∙ seal-back key nonce aad b (Seal key nonce aad b) refl
+
 -- the seal of what a ciphertext is counted to
 pub seal-of : (key nonce aad sealed tag : List ℕ) → tag_of key nonce aad sealed ≡ tag
     → Seal key nonce aad (counted key nonce sealed) ≡ record { text = sealed; tag = tag }

@@ -11,6 +11,7 @@ mod cases;
 mod counter;
 mod gcm;
 mod hash_table;
+pub mod laws;
 mod polynomial;
 #[cfg(test)]
 mod tests;

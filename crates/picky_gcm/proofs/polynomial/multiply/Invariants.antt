@@ -1,6 +1,6 @@
 use Rattle.std.proofs.Common.{◌≡◌, drop}
 use Rattle.picky_gcm.specs.Polynomial.{coefficients, plus}
-use Rattle.picky_gcm.proofs.Laws.{walk}
+use Rattle.picky_gcm.proofs.Walk.{walk}
 use Rattle.picky_gcm.proofs.polynomial.multiply.Given as goal
 
 abbrev pub invariant-loop-i : goal.invariant-loop-i
