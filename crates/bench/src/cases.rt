@@ -9,7 +9,8 @@ use anyhow::{Context, Result, bail};
 use hex::FromHex;
 use std::alloc::Global;
 
-pub fn answer_all(rt: &HostRuntime) -> Result<()> {
+// Answers each line of the standard input.
+pub(crate) fn answer_all(rt: &HostRuntime) -> Result<()> {
     for line in rt.lines(rt.alloc()) {
         let answer = answer(rt.alloc(), line?.as_str())?;
         println!(rt; "{answer}")?;

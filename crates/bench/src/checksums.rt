@@ -5,7 +5,8 @@ use std::alloc::{AllocError, Global};
 
 const CHAIN: usize = 10000;
 
-pub fn counted(alloc: Global, size: usize) -> Result<Vec<u8>, AllocError> {
+// So many bytes counted out.
+pub(crate) fn counted(alloc: Global, size: usize) -> Result<Vec<u8>, AllocError> {
     let mut bytes = Vec::new(alloc);
     for j in 0..size {
         bytes.push((j % 251) as u8)?;
@@ -13,7 +14,8 @@ pub fn counted(alloc: Global, size: usize) -> Result<Vec<u8>, AllocError> {
     Ok(bytes)
 }
 
-pub fn print(rt: &HostRuntime) -> Result<()> {
+// Prints a line for each run.
+pub(crate) fn print(rt: &HostRuntime) -> Result<()> {
     for size in [16, 24, 32] {
         let block = chained(rt.alloc(), size)?;
         println!(rt;

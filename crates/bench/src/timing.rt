@@ -14,7 +14,8 @@ fn report(rt: &HostRuntime, name: &str, bytes: u64, start: &Instant) -> io::Resu
     println!(rt; "{name}: {}.{} MB/s", tenths / 10, tenths % 10)
 }
 
-pub fn print(rt: &HostRuntime) -> Result<()> {
+// Times each call and prints a line for it.
+pub(crate) fn print(rt: &HostRuntime) -> Result<()> {
     time_aes(rt)?;
     time_hash(rt)?;
     time_seal(rt, "gcm seal of 16 bytes", 16, 1 << 16)?;
