@@ -1,5 +1,6 @@
 // The ciphers' calls on bytes of sizes that are known only when the program runs.
-ghost use Rattle.std.specs.Prelude.{◌≡◌, ◌↔◌, IfOk, IsTrue, OnOk};
+ghost use Rattle.std.specs.Prelude.{◌≡◌, ◌↔◌, length, IfOk, IsOk, IsTrue, OnOk};
+ghost use Rattle.picky_aes.specs.Cipher.{IsKeySize};
 ghost use Rattle.picky_gcm.specs.Gcm.{Seal, tag_of};
 ghost use Rattle.picky_gcm.specs.Hash.{hash_of};
 
@@ -12,7 +13,8 @@ const MOST_AAD: usize = (1 << 61) - 1;
 
 // The cipher under a key of 16, 24 or 32 bytes, and an error for another size.
 pub(crate) fn aes(key: &[u8]) -> Result<Aes>
-    ensures { IfOk result (λ aes. aes ≡ key.now) }
+    ensures sized { IsOk result ↔ IsKeySize (length key.now) }
+    ensures key { IfOk result (λ aes. aes ≡ key.now) }
 {
     match key.len() {
         16 | 24 | 32 => Ok(Aes::new(key)),
