@@ -7,6 +7,7 @@ use std::alloc::Global;
 use std::fs::File;
 use std::io;
 use std::io::{ErrorKind, Read};
+use std::marker::Model;
 use std::rt::Files;
 
 /// The files of the system, by their paths. Every error but want of memory raises the count of faults.
@@ -16,9 +17,19 @@ pub struct FileCabinet<'a, R: Files> {
     faults: u64,
 }
 
+impl<R: Files> Model for FileCabinet<'_, R> {
+    ghost use Rattle.std.specs.Prelude.{ℕ};
+
+    ghost Value = { ℕ };
+
+    ghost view = { λ c. c.faults };
+}
+
 impl<'a, R: Files> FileCabinet<'a, R> {
-    /// The files that the runtime reaches.
-    pub fn new(rt: &'a R) -> FileCabinet<'a, R> {
+    /// The files that the runtime reaches; contracts see the count of faults, which is 0.
+    pub fn new(rt: &'a R) -> FileCabinet<'a, R>
+        ensures { result ≡ 0 }
+    {
         FileCabinet { rt, faults: 0 }
     }
 }
@@ -53,7 +64,7 @@ fn fetch_file<R: Files>(rt: &R, alloc: Global, path: &str, limit: usize) -> io::
 impl<R: Files> Cabinet for FileCabinet<'_, R> {
     ghost content = { λ c p. None };
 
-    ghost faults = { λ c. c.faults };
+    ghost faults = { λ c. c };
 
     fn fetch(&mut self, alloc: Global, path: &str, limit: usize) -> Result<Vec<u8>, FetchFault> {
         match fetch_file(self.rt, alloc, path, limit) {

@@ -5,6 +5,7 @@ ghost use Rattle.picky_gate.specs.Outside.{Adds, WriteCause};
 use crate::{Failed, Sink};
 use std::io;
 use std::io::Write;
+use std::marker::Model;
 
 /// The standard output. Every error, and an Ok of 0 bytes for a piece that isn't empty, raises the
 /// count of faults.
@@ -14,9 +15,19 @@ pub struct StdSink<'a, R: Print> {
     faults: u64,
 }
 
+impl<R: Print> Model for StdSink<'_, R> {
+    ghost use Rattle.std.specs.Prelude.{ℕ};
+
+    ghost Value = { ℕ };
+
+    ghost view = { λ s. s.faults };
+}
+
 impl<'a, R: Print> StdSink<'a, R> {
-    /// The standard output of the runtime.
-    pub fn new(rt: &'a R) -> StdSink<'a, R> {
+    /// The standard output of the runtime; contracts see the count of faults, which is 0.
+    pub fn new(rt: &'a R) -> StdSink<'a, R>
+        ensures { result ≡ 0 }
+    {
         StdSink { rt, faults: 0 }
     }
 }
@@ -24,7 +35,7 @@ impl<'a, R: Print> StdSink<'a, R> {
 impl<R: Print> Sink for StdSink<'_, R> {
     ghost written = { λ s. None };
 
-    ghost faults = { λ s. s.faults };
+    ghost faults = { λ s. s };
 
     ghost room = { λ s. 0 };
 
