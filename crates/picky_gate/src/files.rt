@@ -17,7 +17,7 @@ pub struct FileCabinet<'a, R: Files> {
     faults: u64,
 }
 
-impl<R: Files> Model for FileCabinet<'_, R> {
+impl<'a, R: Files> Model for FileCabinet<'a, R> {
     ghost use Rattle.std.specs.Prelude.{ℕ};
 
     ghost Value = { ℕ };

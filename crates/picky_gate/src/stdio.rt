@@ -15,7 +15,7 @@ pub struct StdSink<'a, R: Print> {
     faults: u64,
 }
 
-impl<R: Print> Model for StdSink<'_, R> {
+impl<'a, R: Print> Model for StdSink<'a, R> {
     ghost use Rattle.std.specs.Prelude.{ℕ};
 
     ghost Value = { ℕ };
