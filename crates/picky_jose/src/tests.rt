@@ -1,5 +1,6 @@
 // Rows of tokens, signatures and dates. Texts in base64url were made by python's base64.
 use super::*;
+use crate::jws::raw;
 use picky_base64::Form;
 use picky_jwk::JwsAlg;
 use picky_key::{EdAlgorithm, PublicKey, Recorded, SignatureError};
@@ -106,10 +107,8 @@ fn tokens_that_are_not_read(rt: HostRuntime) -> Result<(), Fail> {
 }
 
 // What `verify` answers of a text under a name, with the first token's record.
-fn verified(alloc: Global, text: &'static str, alg: JwsAlg) -> Result<&'static str, Fail> {
-    let mut token = decoded(alloc, TOKEN)?;
-    token.compact_repr = CowStr::Borrowed(text);
-    token.header.alg = alg;
+fn verified(alloc: Global, text: &str, alg: JwsAlg) -> Result<&'static str, Fail> {
+    let token = raw(alloc, text, JwsHeader { alg, kid: None })?;
     let provider = Recorded::read(alloc, RECORD)?;
     let key = zero_key(alloc)?;
     match token.verify(alloc, &provider, &key) {
