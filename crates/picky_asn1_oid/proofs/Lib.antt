@@ -1,0 +1,4 @@
+pub mod Arcs
+pub mod Dots
+pub mod Septets
+pub mod Sequences
