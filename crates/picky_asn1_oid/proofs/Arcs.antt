@@ -27,7 +27,7 @@ arcs_two (a ∷ b ∷ others) two is fits =
 
 -- ---- back and forth
 
-arcs_from-subidentifiers : (arcs : List ℕ) → IsArcs arcs → arcs_from (subidentifiers arcs) ≡ arcs
+pub arcs_from-subidentifiers : (arcs : List ℕ) → IsArcs arcs → arcs_from (subidentifiers arcs) ≡ arcs
 arcs_from-subidentifiers [] arcs = absurd arcs
 arcs_from-subidentifiers (a ∷ []) arcs = absurd arcs
 arcs_from-subidentifiers (a ∷ b ∷ others) arcs =
@@ -37,7 +37,7 @@ arcs_from-subidentifiers (a ∷ b ∷ others) arcs =
     head : (a b : ℕ) → a ≤ 2 → (a < 2 → b < 40) → min ((40 * a + b) / 40) 2 ≡ a
     head a b le low = elim (cases_lt a 2) [ inl lt ↦ let small = low lt in omega arith | inr ge ↦ omega arith ]
 
-subidentifiers_fit : (arcs : List ℕ) → IsArcs arcs → All FitsArc (subidentifiers arcs)
+pub subidentifiers_fit : (arcs : List ℕ) → IsArcs arcs → All FitsArc (subidentifiers arcs)
 subidentifiers_fit [] arcs = absurd arcs
 subidentifiers_fit (a ∷ []) arcs = absurd arcs
 subidentifiers_fit (a ∷ b ∷ others) arcs = All-cons FitsArc (40 * a + b) others arcs.2 arcs.3
@@ -92,3 +92,11 @@ arcs_written (n ∷ others) joined first some j f =
 pub got_first : (numbers : List ℕ) (joined : ℕ) → Some joined ≡ slice_get numbers 0 → (numbers ≢ []) × (joined ≡ get_or numbers 0 0)
 got_first [] joined got = absurd (false≢true (ap is_some (sym got)))
 got_first (n ∷ others) joined got = ((λ (h : (n ∷ others) ≡ []). cc), ap (λ (o : Option ℕ). unwrap_or o 0) got)
+
+-- each arc fits 128 bits
+pub arcs_fit : (arcs : List ℕ) → IsArcs arcs → All FitsArc arcs
+arcs_fit [] arcs = absurd arcs
+arcs_fit (a ∷ []) arcs = absurd arcs
+arcs_fit (a ∷ b ∷ others) arcs =
+    let joined = arcs.2 in
+    All-cons FitsArc a (b ∷ others) (omega arith) (All-cons FitsArc b others (omega arith) arcs.3)

@@ -31,7 +31,7 @@ dotless (d ∷ ds) all =
 pub decimal_dotless : (n : ℕ) → FitsArc n → Lacks 46 (decimal n)
 decimal_dotless n fits = dotless (decimal n) (decimal_is_IsNumeral_wide n (omega arith)).0.1
 
-dot_inside : (front back : List ℕ) → Lacks 46 (front ++ 46 ∷ back) → ⊥
+pub dot_inside : (front back : List ℕ) → Lacks 46 (front ++ 46 ∷ back) → ⊥
 dot_inside [] back lacks = All-head (λ b. b ≢ 46) 46 back lacks refl
 dot_inside (b ∷ bs) back lacks = dot_inside bs back (All-tail (λ b. b ≢ 46) b (bs ++ 46 ∷ back) lacks)
 

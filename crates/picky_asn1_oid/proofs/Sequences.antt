@@ -48,7 +48,7 @@ HasTaken-stuck bytes numbers rest taken some none all a = let t = taken.only all
     next [] are = some (sym are.1)
     next (m ∷ later) are = none m (flat_map base128 later) (All-head FitsArc m later are.0) are.1
 
-base128_some : (n : ℕ) (tail : List ℕ) → base128 n ++ tail ≡ [] → ⊥
+pub base128_some : (n : ℕ) (tail : List ℕ) → base128 n ++ tail ≡ [] → ⊥
 unfolding base128
 base128_some n tail e = grind (arith, common_steps, ap length e)
 
