@@ -1,0 +1,4 @@
+pub mod Hash
+pub mod Hasher
+pub mod Hmac
+pub mod Keyed
