@@ -1,2 +1,4 @@
 pub mod Sizes
 pub mod Keys
+pub mod Sums
+pub mod Joins

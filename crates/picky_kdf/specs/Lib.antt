@@ -2,3 +2,5 @@ pub mod Hash
 pub mod Hasher
 pub mod Hmac
 pub mod Keyed
+pub mod Parts
+pub mod Pbkdf2

@@ -7,6 +7,8 @@
 
 mod hash;
 mod mac;
+mod pkcs5;
 
 pub use hash::Pkcs12HashAlgorithm;
 pub use mac::hmac;
+pub use pkcs5::pbkdf2;
