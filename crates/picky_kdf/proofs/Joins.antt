@@ -1,7 +1,8 @@
 -- One more part joined.
 use Rattle.std.proofs.Common.{◌≡◌, ℕ, zero, suc, ◌+◌, List, ◌++◌, sym, ap, ◌∙◌, arith, add-one}
+use Rattle.std.specs.Int.{div_ceil}
 use Rattle.std.proofs.lemmas.List.{append-nil, append_assoc}
-use Rattle.picky_kdf.specs.Parts.{joined, parts_for}
+use Rattle.picky_kdf.specs.Parts.{joined}
 
 joined-suc : (part : ℕ → List ℕ) (first n : ℕ) → joined part first (suc n) ≡ joined part first n ++ part (first + n)
 joined-suc part first zero = append-nil (part first) ∙ ap part (omega arith)
@@ -17,5 +18,5 @@ joined_more part first n k before one eb eo ek =
     (λ i. eb i ++ (eo ∙ ap part ek) i) ∙ sym (joined-suc part first n) ∙ ap (joined part first) (sym (add-one n))
 
 -- all the parts joined
-pub joined_to : (part : ℕ → List ℕ) (first n count m k size : ℕ) → n ≡ count → count ≡ parts_for m size → m ≡ k → joined part first n ≡ joined part first (parts_for k size)
-joined_to part first n count m k size en ec ek = ap (joined part first) (en ∙ ec ∙ ap (λ j. parts_for j size) ek)
+pub joined_to : (part : ℕ → List ℕ) (first n count m k size : ℕ) → n ≡ count → count ≡ div_ceil size m → m ≡ k → joined part first n ≡ joined part first (div_ceil size k)
+joined_to part first n count m k size en ec ek = ap (joined part first) (en ∙ ec ∙ ap (λ j. div_ceil size j) ek)

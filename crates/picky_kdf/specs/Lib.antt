@@ -4,3 +4,4 @@ pub mod Hmac
 pub mod Keyed
 pub mod Parts
 pub mod Pbkdf2
+pub mod Pkcs12Kdf

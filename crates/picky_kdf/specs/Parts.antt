@@ -1,10 +1,6 @@
 -- A text of a wanted size as the front of numbered parts that are joined (RFC 8018, section 5.2, steps 2 to 4).
-use Rattle.std.specs.Prelude.{ℕ, ◌+◌, ◌-◌, ◌/◌, List}
+use Rattle.std.specs.Prelude.{ℕ, List}
 use Rattle.std.specs.List.{flat_map, range_with_len}
-
--- how many parts of n bytes cover `size` bytes
-abbrev pub parts_for : ℕ → ℕ → ℕ
-parts_for n size = (size + n - 1) / n
 
 -- `count` parts joined, the first of them under the number `first`
 abbrev pub joined : (ℕ → List ℕ) → ℕ → ℕ → List ℕ

@@ -1,9 +1,9 @@
 -- PBKDF2 with HMAC as its pseudorandom function (RFC 8018, section 5.2).
 use Rattle.std.specs.Prelude.{ℕ, zero, suc, List, [], ◌∷◌, ◌++◌, replicate, take, bit_xor}
-use Rattle.std.specs.Int.{to_be_bytes, w32}
+use Rattle.std.specs.Int.{div_ceil, to_be_bytes, w32}
 use Rattle.picky_kdf.specs.Hash.{digest_size}
 use Rattle.picky_kdf.specs.Hmac.{hmac}
-use Rattle.picky_kdf.specs.Parts.{joined, parts_for}
+use Rattle.picky_kdf.specs.Parts.{joined}
 use Rattle.picky_kdf.specs.declared.hash.Pkcs12HashAlgorithm.{Pkcs12HashAlgorithm}
 
 -- two texts added, byte by byte
@@ -26,4 +26,4 @@ key_sum hash password salt i (suc c) =
 -- the first `size` bytes of the blocks T_1, T_2, …, each the sum of `iterations` HMACs
 unfoldable pub pbkdf2 : Pkcs12HashAlgorithm → List ℕ → List ℕ → ℕ → ℕ → List ℕ
 pbkdf2 hash password salt iterations size =
-    take size (joined (λ i. key_sum hash password salt i iterations) 1 (parts_for (digest_size hash) size))
+    take size (joined (λ i. key_sum hash password salt i iterations) 1 (div_ceil size (digest_size hash)))

@@ -7,8 +7,10 @@
 
 mod hash;
 mod mac;
+mod pkcs12;
 mod pkcs5;
 
 pub use hash::Pkcs12HashAlgorithm;
 pub use mac::hmac;
 pub use pkcs5::pbkdf2;
+pub use pkcs12::{Pbkdf1Usage, pbkdf1};

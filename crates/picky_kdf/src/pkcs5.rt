@@ -1,9 +1,9 @@
 //! PBKDF2 with HMAC.
 
 ghost use Rattle.std.specs.Prelude.{◌≡◌, ◌≤◌, ◌<◌, ◌+◌, ◌-◌, ◌/◌, ◌^◌, ℕ, List, length, take, IfOk};
+ghost use Rattle.std.specs.Int.{div_ceil};
 ghost use Rattle.picky_kdf.specs.Hash.{digest_size};
 ghost use Rattle.picky_kdf.specs.Keyed.{IsKeyed};
-ghost use Rattle.picky_kdf.specs.Parts.{parts_for};
 ghost use Rattle.picky_kdf.specs.Pbkdf2.{added, key_sum, pbkdf2};
 
 use crate::hash::Pkcs12HashAlgorithm;
@@ -45,7 +45,7 @@ fn key_sum(
 pub(crate) fn parts_for(part: usize, size: usize) -> u32
     requires some { 1 ≤ part }
     requires short { size ≤ 1024 }
-    ensures { result ≡ parts_for part size }
+    ensures { result ≡ div_ceil size part }
 {
     size.div_ceil(part) as u32
 }
