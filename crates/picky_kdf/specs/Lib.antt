@@ -5,3 +5,4 @@ pub mod Keyed
 pub mod Parts
 pub mod Pbkdf2
 pub mod Pkcs12Kdf
+pub mod ConcatKdf

@@ -5,11 +5,13 @@
 //! Each call equals its definition in `specs/` by proof; its only refusal is want of memory.
 #![tactic(auto)]
 
+mod concat;
 mod hash;
 mod mac;
 mod pkcs12;
 mod pkcs5;
 
+pub use concat::concat_kdf;
 pub use hash::Pkcs12HashAlgorithm;
 pub use mac::hmac;
 pub use pkcs5::pbkdf2;
