@@ -1,15 +1,24 @@
-// How fast each call is, in MB/s.
-use crate::calls;
+// How fast each call is.
+ghost use Rattle.std.specs.Prelude.{◌≤◌, IfOk};
+
 use crate::checksums::counted;
+use crate::{calls, derivations};
 use anyhow::Result;
 use std::io;
 use std::time::Instant;
 
 const MEBIBYTE: usize = 1 << 20;
 
-fn report(rt: &HostRuntime, name: &str, bytes: u64, start: &Instant) -> io::Result<()> {
+// The microseconds since then, at least one.
+pub(crate) fn micros_since(rt: &HostRuntime, start: &Instant) -> io::Result<u64>
+    ensures { IfOk result (λ micros. 1 ≤ micros) }
+{
     let micros = start.elapsed(rt)?.as_micros();
-    let micros = u64::try_from(micros).unwrap_or(u64::MAX).max(1);
+    Ok(u64::try_from(micros).unwrap_or(u64::MAX).max(1))
+}
+
+pub(crate) fn report(rt: &HostRuntime, name: &str, bytes: u64, start: &Instant) -> io::Result<()> {
+    let micros = micros_since(rt, start)?;
     let tenths = bytes.saturating_mul(10) / micros;
     println!(rt; "{name}: {}.{} MB/s", tenths / 10, tenths % 10)
 }
@@ -20,7 +29,8 @@ pub(crate) fn print(rt: &HostRuntime) -> Result<()> {
     time_hash(rt)?;
     time_seal(rt, "gcm seal of 16 bytes", 16, 1 << 16)?;
     time_seal(rt, "gcm seal of 1 KiB", 1024, 1 << 12)?;
-    time_seal(rt, "gcm seal of 1 MiB", MEBIBYTE, 8)
+    time_seal(rt, "gcm seal of 1 MiB", MEBIBYTE, 8)?;
+    derivations::time(rt)
 }
 
 fn time_aes(rt: &HostRuntime) -> Result<()> {
