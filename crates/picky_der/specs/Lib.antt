@@ -1,0 +1,4 @@
+pub mod Form
+pub mod Length
+pub mod Reading
+pub mod View
