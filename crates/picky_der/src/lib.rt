@@ -3,6 +3,8 @@
 
 mod fault;
 mod form;
+mod natural;
+mod plain;
 mod reader;
 mod writing;
 

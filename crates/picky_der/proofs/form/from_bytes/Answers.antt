@@ -1,7 +1,7 @@
 use Rattle.std.proofs.Common.{arith}
 use Rattle.picky_der.specs.Form.{whole}
-use Rattle.picky_der.proofs.Steps.{IfOk-from}
-use Rattle.picky_der.proofs.Whole.{whole_takes, whole_again, OkUnlessDeep-from}
+use Rattle.picky_der.specs.laws.Steps.{IfOk-from}
+use Rattle.picky_der.specs.laws.Whole.{whole_takes, whole_again, OkUnlessDeep-from}
 use Rattle.picky_der.proofs.form.from_bytes.Goals as goal
 
 pub returns-clause-found : goal.returns-clause-found

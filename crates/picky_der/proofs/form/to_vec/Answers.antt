@@ -1,4 +1,4 @@
-use Rattle.picky_der.proofs.Whole.{raw_appended}
+use Rattle.picky_der.specs.laws.Whole.{raw_appended}
 use Rattle.picky_der.proofs.form.to_vec.Goals as goal
 
 pub returns-clause-raw : goal.returns-clause-raw

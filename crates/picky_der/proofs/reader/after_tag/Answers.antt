@@ -1,8 +1,8 @@
 use Rattle.std.proofs.Common.{◌≤◌, List, ℕ, ap, length, arith}
 use Rattle.std.proofs.lemmas.List.{length-append}
 use Rattle.picky_der.specs.Reading.{contents_at}
-use Rattle.picky_der.proofs.Steps.{IfOk-answers}
-use Rattle.picky_der.proofs.Headers.{length_shorter, contents_takes}
+use Rattle.picky_der.specs.laws.Steps.{IfOk-answers}
+use Rattle.picky_der.specs.laws.Headers.{length_shorter, contents_takes}
 use Rattle.picky_der.proofs.reader.after_tag.Goals as goal
 
 pub returns-clause-shorter : goal.returns-clause-shorter

@@ -1,8 +1,8 @@
 use Rattle.std.proofs.Common.{◌≡◌, ◌++◌, List, ℕ, ap, ◌∙◌, arith}
 use Rattle.picky_der.specs.Length.{SpellsLength, length_of}
 use Rattle.picky_der.specs.Reading.{length_at}
-use Rattle.picky_der.proofs.Steps.{IfOk-answers, OkIs-answers}
-use Rattle.picky_der.proofs.Lengths.{length_takes, length_again, length_of-spells, spells-length_of}
+use Rattle.picky_der.specs.laws.Steps.{IfOk-answers, OkIs-answers}
+use Rattle.picky_der.specs.laws.Lengths.{length_takes, length_again, length_of-spells, spells-length_of}
 use Rattle.picky_der.proofs.reader.read_length.Goals as goal
 
 pub returns-clause-found : goal.returns-clause-found

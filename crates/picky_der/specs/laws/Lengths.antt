@@ -9,7 +9,7 @@ use Rattle.std.proofs.lemmas.Nat.{be_bytes_8, from_be_bytes-to_be_bytes_8}
 use Rattle.picky_der.specs.declared.fault.DerError.TheVariants.{Truncated, BadLength}
 use Rattle.picky_der.specs.Length.{IsBytes, number_of, without_zeros, digits, length_of, SpellsLength}
 use Rattle.picky_der.specs.Reading.{length_at, long_at}
-use Rattle.picky_der.proofs.Steps.{chosen, or_false, ok_is, guard_ok, pair_fst, pair_snd}
+use Rattle.picky_der.specs.laws.Steps.{chosen, or_false, ok_is, guard_ok, pair_fst, pair_snd}
 
 -- ---- bytes
 

@@ -6,8 +6,8 @@ use Rattle.picky_der.specs.declared.fault.DerError.TheVariants.{Truncated, Wrong
 use Rattle.picky_der.specs.Length.{IsBytes}
 use Rattle.picky_der.specs.Reading.{◌>>=◌, Gives, raw_at, end_at}
 use Rattle.picky_der.specs.Form.{Form, Lawful, GivesOrTooDeep, OkUnlessDeep, Appends, whole}
-use Rattle.picky_der.proofs.Steps.{bind_ok, ok_is}
-use Rattle.picky_der.proofs.Headers.{raw_again, end_takes, end_again}
+use Rattle.picky_der.specs.laws.Steps.{bind_ok, ok_is}
+use Rattle.picky_der.specs.laws.Headers.{raw_again, end_takes, end_again}
 
 -- what a call answered, where reading gives y or stops at the limit
 pub OkUnlessDeep-from : {X Y : Type 0} (view : X → Y) (result : Result X DerError) (read : Result Y DerError) (y : Y) → Gives view result read → GivesOrTooDeep read y → OkUnlessDeep view result y

@@ -8,8 +8,8 @@ use Rattle.picky_der.specs.declared.fault.DerError.TheVariants.{Truncated, Wrong
 use Rattle.picky_der.specs.Length.{IsBytes, number_of, length_of, value_of}
 use Rattle.picky_der.specs.Reading.{◌>>=◌, length_at, long_at, contents_at, rest_at, after_tag, value_at, raw_at, deeper, nested_at, whole_bytes, nested_bits_at, end_at}
 use Rattle.picky_der.specs.Form.{IsValue, IsOneValue, BeginsBy, GivesOrTooDeep}
-use Rattle.picky_der.proofs.Steps.{chosen, ok_is, guard_ok, need_ok, bind_ok, pair_fst, pair_snd}
-use Rattle.picky_der.proofs.Lengths.{IsBytes-rest, IsBytes-after, IsBytes-front, length_again, length_takes}
+use Rattle.picky_der.specs.laws.Steps.{chosen, ok_is, guard_ok, need_ok, bind_ok, pair_fst, pair_snd}
+use Rattle.picky_der.specs.laws.Lengths.{IsBytes-rest, IsBytes-after, IsBytes-front, length_again, length_takes}
 
 pub eqb_same : (n : ℕ) → eqb n n ≡ true
 eqb_same n = eq-eqb n n refl
