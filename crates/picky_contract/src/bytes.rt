@@ -84,6 +84,41 @@ impl From<Vec<u8>> for Bytes {
     }
 }
 
+impl From<Bytes> for Vec<u8> {
+    ghost from_gives = { λ b v. v.items ≡ b };
+
+    fn from(bytes: Bytes) -> Vec<u8> {
+        bytes.into_vec()
+    }
+}
+
+impl Deref for Bytes {
+    type Target = Vec<u8>;
+
+    ghost deref_gives = { λ b v. v.items ≡ b };
+
+    fn deref(&self) -> &Vec<u8> {
+        &self.bytes
+    }
+}
+
+impl DerefMut for Bytes {
+    ghost use Rattle.std.specs.Prelude.{◌≡◌};
+    ghost use Rattle.std.specs.Borrow.{Lends, sem};
+    ghost use Rattle.picky_contract.specs.contracts.bytes.Bytes.{the_row};
+    ghost use Rattle.picky_contract.specs.Rows.{bytes_row};
+
+    ghost deref_mut_gives = { λ b v. v.items ≡ b };
+
+    /// The vector, to be changed in place.
+    fn deref_mut(&mut self) -> &mut Vec<u8>
+        ensures* writes_back { sem 𝓛 (Lends the_row bytes_row self.entry result (λ v. v.items)) }
+        ensures shows { result.now.items ≡ self.old }
+    {
+        &mut self.bytes
+    }
+}
+
 impl PartialEq for Bytes {
     ghost eq = { pointwise nat_eq };
 
