@@ -3,6 +3,7 @@ pub mod Length
 pub mod Natural
 pub mod Plain
 pub mod Primitive
+pub mod Raw
 pub mod Reading
 pub mod View
 pub mod laws

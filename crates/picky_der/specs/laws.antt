@@ -4,5 +4,6 @@ pub mod Lengths
 pub mod Natural
 pub mod Plain
 pub mod Primitives
+pub mod Raw
 pub mod Steps
 pub mod Whole

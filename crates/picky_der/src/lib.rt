@@ -5,10 +5,12 @@ mod fault;
 mod form;
 mod natural;
 mod plain;
+mod raw;
 mod reader;
 mod writing;
 
 pub use fault::DerError;
 pub use form::{DerForm, DerRead, DerTagged, DerWrite, from_bytes, to_vec};
+pub use raw::Asn1RawDer;
 pub use reader::{DerReader, TagPeeker, read_length};
 pub use writing::write_value;

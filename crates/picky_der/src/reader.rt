@@ -1,7 +1,7 @@
 // A reader of values in a slice.
 ghost use Rattle.std.specs.Prelude.{◌≡◌, ◌++◌, ◌≤◌, ◌+◌, ◌↔◌, ℕ, List, [], Ok, length, IfOk, IsTrue};
 ghost use Rattle.picky_der.specs.Length.{SpellsLength, number_of};
-ghost use Rattle.picky_der.specs.Form.{OkIs};
+ghost use Rattle.picky_der.specs.Form.{OkIs, IsOneValue};
 ghost use Rattle.picky_der.specs.Reading.{Answers, Moves, long_at, length_at, contents_at, rest_at, after_tag, value_at, raw_at, whole_bytes, nested_at, nested_bits_at, end_at, tag_at};
 
 use crate::fault::DerError;
@@ -131,6 +131,27 @@ fn value(tag: Tag, bytes: &[u8]) -> Result<(&[u8], &[u8]), DerError>
     }
 }
 
+#[tactic(auto, unfolding(crate::specs::Reading::raw_at))]
+fn raw_value(bytes: &[u8]) -> Result<(&[u8], &[u8]), DerError>
+    ensures { Answers (λ x. (x.0.now, x.1.now)) result (raw_at bytes.now) }
+{
+    match bytes {
+        [] => Err(DerError::Truncated),
+        [first, rest @ ..] => {
+            let (_, left) = after_tag(*first, rest)?;
+            let (raw, _) = bytes.split_at(bytes.len() - left.len());
+            Ok((raw, left))
+        }
+    }
+}
+
+fn one_value(bytes: &[u8]) -> Result<(&[u8], &[u8]), DerError>
+    ensures first { Answers (λ x. (x.0.now, x.1.now)) result (raw_at bytes.now) }
+    ensures one { IfOk result (λ x. IsOneValue x.0.now) }
+{
+    raw_value(bytes)
+}
+
 #[tactic(auto, unfolding(crate::specs::Reading::whole_bytes))]
 fn whole_bytes(contents: &[u8]) -> Result<&[u8], DerError>
     ensures { Answers (λ x. x.now) result (whole_bytes contents.now) }
@@ -207,20 +228,13 @@ impl<'a> DerReader<'a> {
     /// The whole next value, tag and length too; the reader then stands just past it.
     ///
     /// The faults are those of `read_value` for the tag that stands there.
-    #[tactic(auto, unfolding(crate::specs::Reading::raw_at))]
     pub fn read_raw(&mut self) -> Result<&'a [u8], DerError>
-        ensures { Moves (λ x. x.now) (λ _ bytes. raw_at bytes) self.old result self.new }
+        ensures reads { Moves (λ x. x.now) (λ _ bytes. raw_at bytes) self.old result self.new }
+        ensures one { IfOk result (λ x. IsOneValue x.now) }
     {
-        let bytes = self.left;
-        match bytes {
-            [] => Err(DerError::Truncated),
-            [first, rest @ ..] => {
-                let (_, left) = after_tag(*first, rest)?;
-                let (raw, _) = bytes.split_at(bytes.len() - left.len());
-                self.left = left;
-                Ok(raw)
-            }
-        }
+        let (raw, left) = one_value(self.left)?;
+        self.left = left;
+        Ok(raw)
     }
 
     /// A reader of the contents of the next value, which has this tag; this reader then stands just past the value.

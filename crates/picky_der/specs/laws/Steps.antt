@@ -1,6 +1,6 @@
 -- Steps of reading: what follows where they didn't fail.
 use Rattle.std.proofs.Common.{◌≡◌, Bool, true, false, cond, ◌⊎◌, Result, Ok, Err, refl, sym, ap, ◌∙◌, inl, inr}
-use Rattle.std.specs.Prelude.{◌||◌, IfOk}
+use Rattle.std.specs.Prelude.{◌||◌, IfOk, OnOk}
 use Rattle.picky_der.specs.declared.fault.DerError.{DerError}
 use Rattle.picky_der.specs.declared.fault.DerError.TheVariants.{Truncated, WrongTag, BadLength, BadValue, TrailingBytes, TooDeep, OutOfMemory}
 use Rattle.picky_der.specs.Reading.{◌>>=◌, Fails, Gives, Answers}
@@ -77,3 +77,8 @@ IfOk-answers view P (Err e) read p h = tt
 pub OkIs-answers : {X Y : Type 0} (view : X → Y) (result : Result X DerError) (read : Result Y DerError) (y : Y) → Answers view result read → read ≡ Ok y → OkIs view result y
 OkIs-answers view (Ok x) read y p q = ok_is (view x) y (sym p ∙ q)
 OkIs-answers view (Err e) read y p q = absurd (cc (p, q))
+
+-- what follows where reading doesn't fail follows where the call didn't
+pub OnOk-answers : {X : Type 0} (P : Type 0) (result read : Result X DerError) → Answers (λ (x : X). x) result read → ((x : X) → read ≡ Ok x → P) → OnOk result P
+OnOk-answers P (Ok x) read p h = h x p
+OnOk-answers P (Err e) read p h = tt
