@@ -3,7 +3,7 @@ use Rattle.std.specs.Prelude.{◌≡◌, ◌≢◌, ℕ, ◌%◌, ◌<◌, ◌^�
 use Rattle.picky_asn1_tag.specs.declared.tag.Tag.{Tag}
 use Rattle.picky_der.specs.declared.fault.DerError.{DerError}
 use Rattle.picky_der.specs.declared.fault.DerError.TheVariants.{BadValue, TooDeep, OutOfMemory}
-use Rattle.picky_der.specs.Length.{IsBytes, value_of}
+use Rattle.picky_der.specs.Length.{TailIsBytes, value_of}
 use Rattle.picky_der.specs.Reading.{◌>>=◌, end_at}
 
 -- ---- one value
@@ -60,7 +60,7 @@ pub record Lawful {X : Type 0} (f : Form X) : Type 0 where
   -- no spelling is a proper prefix of another, and one spelling has one value
   pub prefix_free : (x y : X) (s t a b : List ℕ) → f.in_form x → f.in_form y → f.Spells s x → f.Spells t y → s ++ a ≡ t ++ b → (s ≡ t) × (x ≡ y)
   -- what is read is the value in form whose spelling stands there, and reading ends just past it
-  pub takes : (depth : ℕ) (bytes : List ℕ) (x : X) (rest : List ℕ) → IsBytes bytes → f.reading depth bytes ≡ Ok (x, rest) → Takes f.in_form f.Spells bytes x rest
+  pub takes : (depth : ℕ) (bytes : List ℕ) (x : X) (rest : List ℕ) → TailIsBytes bytes → f.reading depth bytes ≡ Ok (x, rest) → Takes f.in_form f.Spells bytes x rest
   -- where a spelling stands, reading gives its value, or stops at the limit of depth
   pub again : (depth : ℕ) (s rest : List ℕ) (x : X) → f.in_form x → f.Spells s x → GivesOrTooDeep (f.reading depth (s ++ rest)) (x, rest)
   -- reading takes a byte

@@ -7,6 +7,11 @@ use Rattle.std.specs.Int.{w64, to_be_bytes}
 abbrev pub IsBytes : List ℕ → Type 0
 IsBytes bytes = (i : ℕ) → get_or bytes i 0 < 256
 
+-- each number after the first is one of a byte
+abbrev pub TailIsBytes : List ℕ → Type 0
+TailIsBytes [] = Unit {0}
+TailIsBytes (b ∷ bs) = IsBytes bs
+
 -- the number of which these are the last bytes, where `high` stands for those in front
 abbrev pub number_after : ℕ → List ℕ → ℕ
 number_after high [] = high

@@ -5,11 +5,11 @@ use Rattle.std.proofs.lemmas.Bool.{eq-eqb, ne_eqb, eqb-true, ltb-false, le-ltb}
 use Rattle.std.proofs.lemmas.List.{take_at, drop_at, take-append-drop, length-append, length-take, length-drop}
 use Rattle.picky_asn1_tag.specs.declared.tag.Tag.{Tag}
 use Rattle.picky_der.specs.declared.fault.DerError.TheVariants.{Truncated, WrongTag, BadLength, BadValue, TooDeep}
-use Rattle.picky_der.specs.Length.{IsBytes, number_of, length_of, value_of}
+use Rattle.picky_der.specs.Length.{IsBytes, TailIsBytes, number_of, length_of, value_of}
 use Rattle.picky_der.specs.Reading.{◌>>=◌, length_at, long_at, contents_at, rest_at, after_tag, value_at, raw_at, deeper, nested_at, whole_bytes, nested_bits_at, end_at}
 use Rattle.picky_der.specs.Form.{IsValue, IsOneValue, BeginsBy, GivesOrTooDeep}
 use Rattle.picky_der.specs.laws.Steps.{chosen, ok_is, guard_ok, need_ok, bind_ok, pair_fst, pair_snd}
-use Rattle.picky_der.specs.laws.Lengths.{IsBytes-rest, IsBytes-after, IsBytes-front, length_again, length_takes}
+use Rattle.picky_der.specs.laws.Lengths.{IsBytes-after, IsBytes-front, length_again, length_takes}
 
 pub eqb_same : (n : ℕ) → eqb n n ≡ true
 eqb_same n = eq-eqb n n refl
@@ -61,12 +61,12 @@ value_again tag c rest one lt =
     let test : eqb tag.0 tag.0 ≡ true = eqb_same tag.0 in
     rw test (after_tag_again tag.0 c rest one lt)
 
-pub value_takes : (tag : Tag) (bytes c rest : List ℕ) → IsBytes bytes → value_at tag bytes ≡ Ok (c, rest) → IsValue tag c (value_of tag.0 c) × (bytes ≡ value_of tag.0 c ++ rest)
+pub value_takes : (tag : Tag) (bytes c rest : List ℕ) → TailIsBytes bytes → value_at tag bytes ≡ Ok (c, rest) → IsValue tag c (value_of tag.0 c) × (bytes ≡ value_of tag.0 c ++ rest)
 unfolding value_at value_of
 value_takes tag [] c rest fits e = absurd cc
 value_takes tag (b ∷ bs) c rest fits e =
     let a = need_ok (eqb b tag.0) (WrongTag tag (record { 0 = b })) _ (c, rest) e in
-    let k = after_tag_takes tag.0 bs c rest (IsBytes-rest b bs fits) a.1 in
+    let k = after_tag_takes tag.0 bs c rest fits a.1 in
     let b-is : b ≡ tag.0 = eqb-true b tag.0 a.0 in
     (record { one_byte = k.0; fits = k.1; bytes_are = refl }, ap (λ (x : ℕ). x ∷ bs) b-is ∙ ap (λ (t : List ℕ). tag.0 ∷ t) k.2)
 
@@ -80,9 +80,9 @@ IsValue-same tag c d s t a b p q e =
     let c-is : c ≡ d = pair_fst _ _ same in
     (p.bytes_are ∙ ap (value_of tag.0) c-is ∙ sym q.bytes_are, c-is)
 
-pub IsBytes-contents : (tag : ℕ) (c rest : List ℕ) → IsBytes (value_of tag c ++ rest) → IsBytes c
+pub IsBytes-contents : (tag : ℕ) (c rest : List ℕ) → TailIsBytes (value_of tag c ++ rest) → IsBytes c
 unfolding value_of
-IsBytes-contents tag c rest h = IsBytes-after (length_of (length c)) c (IsBytes-front (length_of (length c) ++ c) rest (IsBytes-rest tag ((length_of (length c) ++ c) ++ rest) h))
+IsBytes-contents tag c rest h = IsBytes-after (length_of (length c)) c (IsBytes-front (length_of (length c) ++ c) rest h)
 
 pub BeginsBy-value : (test : ℕ → Bool) (tag : Tag) (c bytes : List ℕ) → test tag.0 ≡ true → IsValue tag c bytes → BeginsBy test bytes
 unfolding value_of
@@ -144,12 +144,12 @@ raw_again s rest v =
     let whole : take (length (t ∷ ((length_of (length c) ++ c) ++ rest)) - length rest) (t ∷ ((length_of (length c) ++ c) ++ rest)) ≡ t ∷ (length_of (length c) ++ c) = raw_tail t ((length_of (length c) ++ c) ++ rest) (t ∷ (length_of (length c) ++ c)) rest refl in
     rw (v.value.bytes_are, front, whole) refl
 
-pub raw_takes : (bytes s rest : List ℕ) → IsBytes bytes → raw_at bytes ≡ Ok (s, rest) → IsOneValue s × (bytes ≡ s ++ rest)
+pub raw_takes : (bytes s rest : List ℕ) → TailIsBytes bytes → raw_at bytes ≡ Ok (s, rest) → IsOneValue s × (bytes ≡ s ++ rest)
 unfolding raw_at value_of
 raw_takes [] s rest fits e = absurd cc
 raw_takes (b ∷ bs) s rest fits e =
     let v = bind_ok (after_tag b bs) (λ v. Ok (take (length (b ∷ bs) - length v.1) (b ∷ bs), v.1)) (s, rest) e in
-    let k = after_tag_takes b bs v.0.0 v.0.1 (IsBytes-rest b bs fits) v.1 in
+    let k = after_tag_takes b bs v.0.0 v.0.1 fits v.1 in
     let same = ok_is (take (length (b ∷ bs) - length v.0.1) (b ∷ bs), v.0.1) (s, rest) v.2 in
     let c = v.0.0 in
     let r = v.0.1 in
@@ -182,7 +182,7 @@ pub nested_again : (tag : Tag) (depth : ℕ) (c s rest : List ℕ) → IsValue t
 unfolding nested_at
 nested_again tag depth c s rest v = rw (IsValue-again tag c s rest v) (deeper_again depth (c, rest))
 
-pub nested_takes : (tag : Tag) (depth : ℕ) (bytes c rest : List ℕ) → IsBytes bytes → nested_at tag depth bytes ≡ Ok (c, rest) → IsValue tag c (value_of tag.0 c) × (bytes ≡ value_of tag.0 c ++ rest)
+pub nested_takes : (tag : Tag) (depth : ℕ) (bytes c rest : List ℕ) → TailIsBytes bytes → nested_at tag depth bytes ≡ Ok (c, rest) → IsValue tag c (value_of tag.0 c) × (bytes ≡ value_of tag.0 c ++ rest)
 unfolding nested_at
 nested_takes tag depth bytes c rest fits e =
     let v = bind_ok (value_at tag bytes) (λ v. deeper depth v) (c, rest) e in
@@ -211,7 +211,7 @@ pub nested_bits_again : (tag : Tag) (depth : ℕ) (c s rest : List ℕ) → IsVa
 unfolding nested_bits_at
 nested_bits_again tag depth c s rest v = rw (IsValue-again tag (0 ∷ c) s rest v, whole_bytes_again c) (deeper_again depth (c, rest))
 
-pub nested_bits_takes : (tag : Tag) (depth : ℕ) (bytes c rest : List ℕ) → IsBytes bytes → nested_bits_at tag depth bytes ≡ Ok (c, rest) → IsValue tag (0 ∷ c) (value_of tag.0 (0 ∷ c)) × (bytes ≡ value_of tag.0 (0 ∷ c) ++ rest)
+pub nested_bits_takes : (tag : Tag) (depth : ℕ) (bytes c rest : List ℕ) → TailIsBytes bytes → nested_bits_at tag depth bytes ≡ Ok (c, rest) → IsValue tag (0 ∷ c) (value_of tag.0 (0 ∷ c)) × (bytes ≡ value_of tag.0 (0 ∷ c) ++ rest)
 unfolding nested_bits_at
 nested_bits_takes tag depth bytes c rest fits e =
     let v = bind_ok (value_at tag bytes) (λ v. whole_bytes v.0 >>= λ c. deeper depth (c, v.1)) (c, rest) e in

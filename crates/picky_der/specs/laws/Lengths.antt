@@ -7,7 +7,7 @@ use Rattle.std.proofs.lemmas.Bool.{cases_lt, eq-eqb, ne_eqb, ltb-false, ltb-true
 use Rattle.std.proofs.lemmas.List.{take_at, drop_at, take-append-drop, length-append, length-take, get_or-drop, get_or-take, get_or_past}
 use Rattle.std.proofs.lemmas.Nat.{be_bytes_8, from_be_bytes-to_be_bytes_8}
 use Rattle.picky_der.specs.declared.fault.DerError.TheVariants.{Truncated, BadLength}
-use Rattle.picky_der.specs.Length.{IsBytes, number_of, without_zeros, digits, length_of, SpellsLength}
+use Rattle.picky_der.specs.Length.{IsBytes, TailIsBytes, number_of, without_zeros, digits, length_of, SpellsLength}
 use Rattle.picky_der.specs.Reading.{length_at, long_at}
 use Rattle.picky_der.specs.laws.Steps.{chosen, or_false, ok_is, guard_ok, pair_fst, pair_snd}
 
@@ -19,6 +19,10 @@ IsBytes-rest b bytes h i = h (suc i)
 pub IsBytes-cons : (b : ℕ) (bytes : List ℕ) → b < 256 → IsBytes bytes → IsBytes (b ∷ bytes)
 IsBytes-cons b bytes lt h zero = lt
 IsBytes-cons b bytes lt h (suc i) = h i
+
+pub TailIsBytes-of : (bytes : List ℕ) → IsBytes bytes → TailIsBytes bytes
+TailIsBytes-of [] h = tt
+TailIsBytes-of (b ∷ bs) h = IsBytes-rest b bs h
 
 pub IsBytes-drop : (n : ℕ) (bytes : List ℕ) → IsBytes bytes → IsBytes (drop n bytes)
 IsBytes-drop n bytes h i = rw get_or-drop (h (n + i))

@@ -2,7 +2,7 @@
 use Rattle.std.proofs.Common.{◌≡◌, ◌≢◌, ℕ, ◌%◌, ◌<◌, eqb, List, [], ◌∷◌, ◌++◌, length, Result, Ok, Err, refl, sym, ap, subst, ◌∙◌, arith, inl}
 use Rattle.picky_asn1_tag.specs.declared.tag.Tag.{Tag}
 use Rattle.picky_der.specs.declared.fault.DerError.{DerError}
-use Rattle.picky_der.specs.Length.{IsBytes, value_of}
+use Rattle.picky_der.specs.Length.{TailIsBytes, value_of}
 use Rattle.picky_der.specs.Reading.{◌>>=◌, value_at}
 use Rattle.picky_der.specs.Form.{Form, Lawful, Tagged, IsValue, IsOneValue, BeginsBy, Takes, GivesOrTooDeep}
 use Rattle.picky_der.specs.Primitive.{Contents, Decodes, SpellsPrimitive, primitive_at, primitive_form}
@@ -18,13 +18,13 @@ module _ {X : Type 0} (tag : Tag) (k : Contents X) (law : Decodes k) where
       subst (λ (p : X × List ℕ). Takes k.in_form (SpellsPrimitive tag k.Octets) bytes p.0 p.1) same
       (record { formed = formed; spelling = value_of tag.0 c; spelled = record { octets = c; value = v; stands_for = spelled }; parts = parts })
 
-  primitive_takes : (depth : ℕ) (bytes : List ℕ) (x : X) (rest : List ℕ) → IsBytes bytes → primitive_at tag k.decode depth bytes ≡ Ok (x, rest) → Takes k.in_form (SpellsPrimitive tag k.Octets) bytes x rest
+  primitive_takes : (depth : ℕ) (bytes : List ℕ) (x : X) (rest : List ℕ) → TailIsBytes bytes → primitive_at tag k.decode depth bytes ≡ Ok (x, rest) → Takes k.in_form (SpellsPrimitive tag k.Octets) bytes x rest
   unfolding primitive_at
   primitive_takes depth bytes x rest fits e =
       let v = bind_ok (value_at tag bytes) (λ v. k.decode v.0 >>= λ x. Ok (x, v.1)) (x, rest) e in
       let w = bind_ok (k.decode v.0.0) (λ x. Ok (x, v.0.1)) (x, rest) v.2 in
       let t = value_takes tag bytes v.0.0 v.0.1 fits v.1 in
-      let h = law.takes v.0.0 w.0 (IsBytes-contents tag.0 v.0.0 v.0.1 (subst IsBytes t.1 fits)) w.1 in
+      let h = law.takes v.0.0 w.0 (IsBytes-contents tag.0 v.0.0 v.0.1 (subst TailIsBytes t.1 fits)) w.1 in
       taken bytes v.0.0 v.0.1 rest w.0 x t.0 t.1 h.0 h.1 (ok_is (w.0, v.0.1) (x, rest) w.2)
 
   primitive_again : (depth : ℕ) (s rest : List ℕ) (x : X) → k.in_form x → SpellsPrimitive tag k.Octets s x → GivesOrTooDeep (primitive_at tag k.decode depth (s ++ rest)) (x, rest)

@@ -3,7 +3,7 @@ use Rattle.std.proofs.Common.{◌≡◌, ◌≢◌, ℕ, ◌%◌, true, eqb, Lis
 use Rattle.std.specs.Prelude.{not}
 use Rattle.std.proofs.lemmas.Bool.{ne_eqb}
 use Rattle.std.proofs.lemmas.List.{append-nil}
-use Rattle.picky_der.specs.Length.{IsBytes, value_of}
+use Rattle.picky_der.specs.Length.{TailIsBytes, value_of}
 use Rattle.picky_der.specs.Reading.{◌>>=◌, raw_at, end_at}
 use Rattle.picky_der.specs.Form.{Lawful, IsOneValue, BeginsBy, Takes}
 use Rattle.picky_der.specs.Raw.{raw_form, raw_whole}
@@ -17,7 +17,7 @@ raw_prefix_free x y s t a b f g p q e =
     let x-is : x ≡ y = pair_fst _ _ same in
     (p ∙ x-is ∙ sym q, x-is)
 
-raw_takes_form : (bytes x rest : List ℕ) → IsBytes bytes → raw_at bytes ≡ Ok (x, rest) → Takes IsOneValue (λ s x. s ≡ x) bytes x rest
+raw_takes_form : (bytes x rest : List ℕ) → TailIsBytes bytes → raw_at bytes ≡ Ok (x, rest) → Takes IsOneValue (λ s x. s ≡ x) bytes x rest
 raw_takes_form bytes x rest fits e =
     let t = raw_takes bytes x rest fits e in
     record { formed = t.0; spelling = x; spelled = refl; parts = t.1 }
@@ -43,7 +43,7 @@ raw_lawful = record {
 }
 
 -- bytes that are read whole are one value
-pub raw_alone_is : (bytes s rest : List ℕ) (u : Unit {0}) → IsBytes bytes → raw_at bytes ≡ Ok (s, rest) → end_at rest ≡ Ok u → IsOneValue bytes
+pub raw_alone_is : (bytes s rest : List ℕ) (u : Unit {0}) → TailIsBytes bytes → raw_at bytes ≡ Ok (s, rest) → end_at rest ≡ Ok u → IsOneValue bytes
 raw_alone_is bytes s rest u fits e n =
     let t = raw_takes bytes s rest fits e in
     let none : rest ≡ [] = end_takes rest u n in

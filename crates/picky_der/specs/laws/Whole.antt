@@ -3,7 +3,7 @@ use Rattle.std.proofs.Common.{◌≡◌, ℕ, List, [], ◌++◌, Result, Ok, Er
 use Rattle.std.proofs.lemmas.List.{append-nil}
 use Rattle.picky_der.specs.declared.fault.DerError.{DerError}
 use Rattle.picky_der.specs.declared.fault.DerError.TheVariants.{Truncated, WrongTag, BadLength, BadValue, TrailingBytes, TooDeep, OutOfMemory}
-use Rattle.picky_der.specs.Length.{IsBytes}
+use Rattle.picky_der.specs.Length.{TailIsBytes}
 use Rattle.picky_der.specs.Reading.{◌>>=◌, Gives, raw_at, end_at}
 use Rattle.picky_der.specs.Form.{Form, Lawful, GivesOrTooDeep, OkUnlessDeep, Appends, whole}
 use Rattle.picky_der.specs.laws.Steps.{bind_ok, ok_is}
@@ -33,7 +33,7 @@ module _ {X : Type 0} (f : Form X) (law : Lawful f) where
       let all : bytes ≡ s = parts ∙ ap (λ (t : List ℕ). s ++ t) none ∙ append-nil s in
       (subst f.in_form same formed, subst (λ (z : X). f.Spells bytes z) same (rw all spelled))
 
-  pub whole_takes : (bytes : List ℕ) (x : X) → IsBytes bytes → whole f.reading bytes ≡ Ok x → f.in_form x × f.Spells bytes x
+  pub whole_takes : (bytes : List ℕ) (x : X) → TailIsBytes bytes → whole f.reading bytes ≡ Ok x → f.in_form x × f.Spells bytes x
   unfolding whole
   whole_takes bytes x fits e =
       let v = bind_ok (f.reading 0 bytes) (λ v. end_at v.1 >>= λ _. Ok v.0) x e in

@@ -1,6 +1,7 @@
 use Rattle.std.proofs.Common.{arith}
 use Rattle.picky_der.specs.Reading.{end_at}
 use Rattle.picky_der.specs.Form.{IsOneValue}
+use Rattle.picky_der.specs.laws.Lengths.{TailIsBytes-of}
 use Rattle.picky_der.specs.laws.Steps.{OnOk-answers}
 use Rattle.picky_der.specs.laws.Raw.{raw_alone_is}
 use Rattle.picky_der.proofs.raw.look_at.Goals as goal
@@ -11,4 +12,4 @@ returns-clause-one c =
     let rest = c.read_raw.new.self.left in
     let e = rw c.new-reader.ensures at c.in_ok-read_raw.ensures.reads.0 in
     OnOk-answers (IsOneValue bytes) c.end.result (end_at rest) c.end.ensures
-    (λ u n. raw_alone_is bytes c.in_ok-read_raw.field-0.now rest u (λ i. omega (arith, c.type_inv.bytes i)) e n)
+    (λ u n. raw_alone_is bytes c.in_ok-read_raw.field-0.now rest u (TailIsBytes-of bytes (λ i. omega (arith, c.type_inv.bytes i))) e n)
