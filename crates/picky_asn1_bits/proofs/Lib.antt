@@ -1,0 +1,4 @@
+pub mod LowBits
+pub mod Numbers
+pub mod OneBit
+pub mod Resize
