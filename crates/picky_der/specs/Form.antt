@@ -53,8 +53,8 @@ pub record Takes {X : Type 0} (in_form : X → Type 0) (Spells : List ℕ → X 
 abbrev pub GivesOrTooDeep : {Y : Type 0} → Result Y DerError → Y → Type 0
 GivesOrTooDeep read y = (read ≡ Ok y) ⊎ (read ≡ Err TooDeep)
 
--- The laws of a type.
-pub record Lawful {X : Type 0} (f : Form X) : Type 0 where
+-- The laws of reading a type.
+pub record Readable {X : Type 0} (f : Form X) : Type 0 where
   -- a spelling of a value in form is one value
   pub one_value : (s : List ℕ) (x : X) → f.in_form x → f.Spells s x → IsOneValue s
   -- no spelling is a proper prefix of another, and one spelling has one value
@@ -67,6 +67,9 @@ pub record Lawful {X : Type 0} (f : Form X) : Type 0 where
   pub shorter : (depth : ℕ) (bytes : List ℕ) (x : X) (rest : List ℕ) → f.reading depth bytes ≡ Ok (x, rest) → length rest < length bytes
   -- `begins` holds of the first byte of every spelling
   pub first : (s : List ℕ) (x : X) → f.in_form x → f.Spells s x → BeginsBy f.begins s
+
+-- The laws of writing a type.
+pub record Writable {X : Type 0} (f : Form X) : Type 0 where
   -- the encoding of a value in form is a spelling of it
   pub encodes : (s : List ℕ) (x : X) → f.in_form x → f.Encodes s x → f.Spells s x
   -- an encoding is one value

@@ -3,7 +3,7 @@ ghost use Rattle.std.specs.Prelude.{◌≡◌, ◌++◌, ◌⊎◌, List, ℕ, O
 ghost use Rattle.picky_asn1_tag.specs.declared.tag.Tag.{Tag as Octet};
 ghost use Rattle.picky_der.specs.declared.fault.DerError.TheVariants.{OutOfMemory, BadValue};
 ghost use Rattle.picky_der.specs.Reading.{Reads, Gives, raw_at};
-ghost use Rattle.picky_der.specs.Form.{Form, Lawful, Tagged, Writes, OkUnlessDeep, whole};
+ghost use Rattle.picky_der.specs.Form.{Form, Readable, Writable, Tagged, Writes, OkUnlessDeep, whole};
 
 use crate::fault::DerError;
 use crate::reader::DerReader;
@@ -11,7 +11,7 @@ use picky_asn1_tag::{Asn1Type, Tag};
 use std::alloc::Global;
 
 /// What a type is as DER: its abstract values, which of them are in form, what spells them, what is written and
-/// what is read, with the laws between these.
+/// what is read. The laws between these are members of [`DerRead`] and [`DerWrite`].
 pub trait DerForm {
     /// The type of the abstract values.
     ghost Abstract: { Type 0 };
@@ -21,9 +21,6 @@ pub trait DerForm {
 
     /// What the abstract values are as DER.
     ghost form: { Form Abstract };
-
-    /// The laws.
-    ghost lawful: { Lawful form };
 }
 
 /// A type whose values are written as DER.
@@ -33,6 +30,9 @@ pub trait DerWrite: DerForm {
     /// `BadValue` where the value has no encoding; a refusal changes nothing.
     fn write_der(&self, alloc: Global, out: &mut Vec<u8>) -> Result<(), DerError>
         ensures { Writes (λ s. Self.form.Encodes s (Self.stands_for self.now)) (Self.form.Refused (Self.stands_for self.now)) result out.old.items out.new.items };
+
+    /// The laws of writing: one encoding a value, which is one value and a spelling of it.
+    ghost writable: { Writable Self.form };
 }
 
 /// A type whose values are read as DER.
@@ -46,6 +46,9 @@ pub trait DerRead: DerForm {
     /// A refusal is the fault at the first bad place, or `OutOfMemory`, and leaves the reader where it stood.
     fn read_der(alloc: Global, reader: &mut DerReader<'_>) -> Result<Self, DerError>
         ensures { Reads Self.stands_for Self.form.reading reader.old result reader.new };
+
+    /// The laws of reading: spellings are free of prefixes, and what stands there is what is read.
+    ghost readable: { Readable Self.form };
 }
 
 /// A type that is written under its tag, and under no other.

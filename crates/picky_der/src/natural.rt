@@ -5,7 +5,7 @@ ghost use Rattle.picky_der.specs.Reading.{Answers, Moves};
 ghost use Rattle.picky_der.specs.Primitive.{SpellsPrimitive, primitive_at, primitive_form};
 ghost use Rattle.picky_der.specs.Form.{Writes};
 ghost use Rattle.picky_der.specs.Natural.{IsNatural, redundant, natural_of, natural_contents};
-ghost use Rattle.picky_der.specs.laws.Natural.{natural_lawful, natural_tagged};
+ghost use Rattle.picky_der.specs.laws.Natural.{natural_readable, natural_writable, natural_tagged};
 
 use crate::fault::DerError;
 use crate::form::{DerForm, DerRead, DerTagged, DerWrite};
@@ -93,8 +93,6 @@ impl DerForm for u8 {
     ghost stands_for = { λ x. x };
 
     ghost form = { primitive_form (record { 0 = 2 }) (natural_contents (2 ^ 8)) };
-
-    ghost lawful = { natural_lawful (2 ^ 8) };
 }
 
 impl DerRead for u8 {
@@ -105,12 +103,16 @@ impl DerRead for u8 {
     fn read_der(_alloc: Global, reader: &mut DerReader<'_>) -> Result<u8, DerError> {
         Ok(read_natural(reader, u8::MAX as u128)? as u8)
     }
+
+    ghost readable = { natural_readable (2 ^ 8) };
 }
 
 impl DerWrite for u8 {
     fn write_der(&self, alloc: Global, out: &mut Vec<u8>) -> Result<(), DerError> {
         write_natural(alloc, *self as u128, out)
     }
+
+    ghost writable = { natural_writable (2 ^ 8) };
 }
 
 impl DerTagged for u8 {
@@ -123,8 +125,6 @@ impl DerForm for u16 {
     ghost stands_for = { λ x. x };
 
     ghost form = { primitive_form (record { 0 = 2 }) (natural_contents (2 ^ 16)) };
-
-    ghost lawful = { natural_lawful (2 ^ 16) };
 }
 
 impl DerRead for u16 {
@@ -135,12 +135,16 @@ impl DerRead for u16 {
     fn read_der(_alloc: Global, reader: &mut DerReader<'_>) -> Result<u16, DerError> {
         Ok(read_natural(reader, u16::MAX as u128)? as u16)
     }
+
+    ghost readable = { natural_readable (2 ^ 16) };
 }
 
 impl DerWrite for u16 {
     fn write_der(&self, alloc: Global, out: &mut Vec<u8>) -> Result<(), DerError> {
         write_natural(alloc, *self as u128, out)
     }
+
+    ghost writable = { natural_writable (2 ^ 16) };
 }
 
 impl DerTagged for u16 {
@@ -153,8 +157,6 @@ impl DerForm for u32 {
     ghost stands_for = { λ x. x };
 
     ghost form = { primitive_form (record { 0 = 2 }) (natural_contents (2 ^ 32)) };
-
-    ghost lawful = { natural_lawful (2 ^ 32) };
 }
 
 impl DerRead for u32 {
@@ -165,12 +167,16 @@ impl DerRead for u32 {
     fn read_der(_alloc: Global, reader: &mut DerReader<'_>) -> Result<u32, DerError> {
         Ok(read_natural(reader, u32::MAX as u128)? as u32)
     }
+
+    ghost readable = { natural_readable (2 ^ 32) };
 }
 
 impl DerWrite for u32 {
     fn write_der(&self, alloc: Global, out: &mut Vec<u8>) -> Result<(), DerError> {
         write_natural(alloc, *self as u128, out)
     }
+
+    ghost writable = { natural_writable (2 ^ 32) };
 }
 
 impl DerTagged for u32 {
@@ -183,8 +189,6 @@ impl DerForm for u64 {
     ghost stands_for = { λ x. x };
 
     ghost form = { primitive_form (record { 0 = 2 }) (natural_contents (2 ^ 64)) };
-
-    ghost lawful = { natural_lawful (2 ^ 64) };
 }
 
 impl DerRead for u64 {
@@ -195,12 +199,16 @@ impl DerRead for u64 {
     fn read_der(_alloc: Global, reader: &mut DerReader<'_>) -> Result<u64, DerError> {
         Ok(read_natural(reader, u64::MAX as u128)? as u64)
     }
+
+    ghost readable = { natural_readable (2 ^ 64) };
 }
 
 impl DerWrite for u64 {
     fn write_der(&self, alloc: Global, out: &mut Vec<u8>) -> Result<(), DerError> {
         write_natural(alloc, *self as u128, out)
     }
+
+    ghost writable = { natural_writable (2 ^ 64) };
 }
 
 impl DerTagged for u64 {
@@ -213,8 +221,6 @@ impl DerForm for u128 {
     ghost stands_for = { λ x. x };
 
     ghost form = { primitive_form (record { 0 = 2 }) (natural_contents (2 ^ 128)) };
-
-    ghost lawful = { natural_lawful (2 ^ 128) };
 }
 
 impl DerRead for u128 {
@@ -225,12 +231,16 @@ impl DerRead for u128 {
     fn read_der(_alloc: Global, reader: &mut DerReader<'_>) -> Result<u128, DerError> {
         Ok(read_natural(reader, u128::MAX)?)
     }
+
+    ghost readable = { natural_readable (2 ^ 128) };
 }
 
 impl DerWrite for u128 {
     fn write_der(&self, alloc: Global, out: &mut Vec<u8>) -> Result<(), DerError> {
         write_natural(alloc, *self, out)
     }
+
+    ghost writable = { natural_writable (2 ^ 128) };
 }
 
 impl DerTagged for u128 {

@@ -3,7 +3,7 @@ ghost use Rattle.std.specs.Prelude.{◌≡◌, List, ℕ, Bool, string_bytes};
 ghost use Rattle.picky_der.specs.Reading.{Answers};
 ghost use Rattle.picky_der.specs.Primitive.{primitive_form};
 ghost use Rattle.picky_der.specs.Plain.{null_of, null_contents, bool_of, bool_contents, utf8_of, utf8_contents};
-ghost use Rattle.picky_der.specs.laws.Plain.{null_lawful, null_tagged, bool_lawful, bool_tagged, utf8_lawful, utf8_tagged};
+ghost use Rattle.picky_der.specs.laws.Plain.{null_readable, null_writable, null_tagged, bool_readable, bool_writable, bool_tagged, utf8_readable, utf8_writable, utf8_tagged};
 
 use crate::fault::DerError;
 use crate::form::{DerForm, DerRead, DerTagged, DerWrite};
@@ -27,8 +27,6 @@ impl DerForm for () {
     ghost stands_for = { λ x. x };
 
     ghost form = { primitive_form (record { 0 = 5 }) null_contents };
-
-    ghost lawful = { null_lawful };
 }
 
 impl DerRead for () {
@@ -43,12 +41,16 @@ impl DerRead for () {
         *reader = ahead;
         Ok(())
     }
+
+    ghost readable = { null_readable };
 }
 
 impl DerWrite for () {
     fn write_der(&self, _alloc: Global, out: &mut Vec<u8>) -> Result<(), DerError> {
         write_value(out, Tag::NULL, &[])
     }
+
+    ghost writable = { null_writable };
 }
 
 impl DerTagged for () {
@@ -74,8 +76,6 @@ impl DerForm for bool {
     ghost stands_for = { λ x. x };
 
     ghost form = { primitive_form (record { 0 = 1 }) bool_contents };
-
-    ghost lawful = { bool_lawful };
 }
 
 impl DerRead for bool {
@@ -90,12 +90,16 @@ impl DerRead for bool {
         *reader = ahead;
         Ok(value)
     }
+
+    ghost readable = { bool_readable };
 }
 
 impl DerWrite for bool {
     fn write_der(&self, _alloc: Global, out: &mut Vec<u8>) -> Result<(), DerError> {
         write_value(out, Tag::BOOLEAN, &[if *self { 0xff } else { 0x00 }])
     }
+
+    ghost writable = { bool_writable };
 }
 
 impl DerTagged for bool {
@@ -117,8 +121,6 @@ impl DerForm for String {
     ghost stands_for = { string_bytes };
 
     ghost form = { primitive_form (record { 0 = 12 }) utf8_contents };
-
-    ghost lawful = { utf8_lawful };
 }
 
 impl DerRead for String {
@@ -133,6 +135,8 @@ impl DerRead for String {
         *reader = ahead;
         Ok(value)
     }
+
+    ghost readable = { utf8_readable };
 }
 
 impl DerWrite for String {
@@ -140,6 +144,8 @@ impl DerWrite for String {
         let text = self.as_str();
         write_value(out, Tag::UTF8_STRING, text.as_bytes())
     }
+
+    ghost writable = { utf8_writable };
 }
 
 impl DerTagged for String {

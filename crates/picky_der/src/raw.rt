@@ -3,7 +3,7 @@ ghost use Rattle.std.specs.Prelude.{◌≡◌, List, ℕ, Ok, OnOk, IfOk};
 ghost use Rattle.picky_der.specs.Reading.{Answers, raw_at};
 ghost use Rattle.picky_der.specs.Form.{IsOneValue};
 ghost use Rattle.picky_der.specs.Raw.{raw_form, raw_whole};
-ghost use Rattle.picky_der.specs.laws.Raw.{raw_lawful};
+ghost use Rattle.picky_der.specs.laws.Raw.{raw_readable, raw_writable};
 
 use crate::fault::DerError;
 use crate::form::{DerForm, DerRead, DerWrite};
@@ -93,8 +93,6 @@ impl DerForm for Asn1RawDer {
     ghost stands_for = { λ x. x };
 
     ghost form = { raw_form };
-
-    ghost lawful = { raw_lawful };
 }
 
 impl DerRead for Asn1RawDer {
@@ -109,6 +107,8 @@ impl DerRead for Asn1RawDer {
         *reader = ahead;
         Ok(Asn1RawDer { bytes })
     }
+
+    ghost readable = { raw_readable };
 }
 
 impl DerWrite for Asn1RawDer {
@@ -116,4 +116,6 @@ impl DerWrite for Asn1RawDer {
         out.extend_from_slice(self.as_bytes())?;
         Ok(())
     }
+
+    ghost writable = { raw_writable };
 }

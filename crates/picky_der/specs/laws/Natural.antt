@@ -6,13 +6,13 @@ use Rattle.std.proofs.lemmas.List.{length-append}
 use Rattle.picky_asn1_tag.specs.declared.tag.Tag.{Tag}
 use Rattle.picky_der.specs.declared.fault.DerError.{DerError}
 use Rattle.picky_der.specs.declared.fault.DerError.TheVariants.{BadValue}
-use Rattle.picky_der.specs.Form.{Lawful, Tagged}
+use Rattle.picky_der.specs.Form.{Readable, Writable, Tagged}
 use Rattle.picky_der.specs.Primitive.{Decodes, primitive_form}
 use Rattle.picky_der.specs.Length.{IsBytes, number_of, number_after}
 use Rattle.picky_der.specs.Natural.{IsNatural, redundant, natural_of, natural_contents}
 use Rattle.picky_der.specs.laws.Steps.{guard_ok, need_ok, or_false, ok_is}
 use Rattle.picky_der.specs.laws.Lengths.{IsBytes-rest, IsBytes-cons, IsBytes-front, IsBytes-both}
-use Rattle.picky_der.specs.laws.Primitives.{primitive_lawful, primitive_tagged}
+use Rattle.picky_der.specs.laws.Primitives.{primitive_readable, primitive_writable, primitive_tagged}
 
 -- ---- a number grows with its octets
 
@@ -181,11 +181,14 @@ natural_decodes limit = record {
   one = λ s t n _ p q. natural-one s t n p q;
 }
 
-pub natural_lawful : (limit : ℕ) → Lawful (primitive_form (record { 0 = 2 }) (natural_contents limit))
-natural_lawful limit = primitive_lawful (record { 0 = 2 }) (natural_contents limit) (natural_decodes limit)
+pub natural_readable : (limit : ℕ) → Readable (primitive_form (record { 0 = 2 }) (natural_contents limit))
+natural_readable limit = primitive_readable (record { 0 = 2 }) (natural_contents limit) (natural_decodes limit)
+
+pub natural_writable : (limit : ℕ) → Writable (primitive_form (record { 0 = 2 }) (natural_contents limit))
+natural_writable limit = primitive_writable (record { 0 = 2 }) (natural_contents limit) (natural_decodes limit)
 
 pub natural_tagged : (limit : ℕ) → Tagged (record { 0 = 2 }) (primitive_form (record { 0 = 2 }) (natural_contents limit))
-natural_tagged limit = primitive_tagged (record { 0 = 2 }) (natural_contents limit) (natural_decodes limit)
+natural_tagged limit = primitive_tagged (record { 0 = 2 }) (natural_contents limit)
 
 -- ---- the loop over the octets
 

@@ -6,17 +6,17 @@ use Rattle.std.specs.Str.{IsUtf8, is_utf8}
 use Rattle.picky_asn1_tag.specs.declared.tag.Tag.{Tag}
 use Rattle.picky_der.specs.declared.fault.DerError.{DerError}
 use Rattle.picky_der.specs.declared.fault.DerError.TheVariants.{BadValue}
-use Rattle.picky_der.specs.Form.{Lawful, Tagged}
+use Rattle.picky_der.specs.Form.{Readable, Writable, Tagged}
 use Rattle.picky_der.specs.Primitive.{Decodes, primitive_form}
 use Rattle.picky_der.specs.Plain.{null_of, null_contents, bool_octet, bool_of, bool_contents, utf8_of, utf8_contents}
 use Rattle.picky_der.specs.laws.Steps.{chosen, need_ok, ok_is}
-use Rattle.picky_der.specs.laws.Primitives.{primitive_lawful, primitive_tagged}
+use Rattle.picky_der.specs.laws.Primitives.{primitive_readable, primitive_writable, primitive_tagged}
 
 null_done : (octets : List ℕ) (x : Unit {0}) → null_of octets ≡ Ok x → octets ≡ []
 null_done [] x e = refl
 null_done (b ∷ bs) x e = absurd cc
 
-null_decodes : Decodes null_contents
+pub null_decodes : Decodes null_contents
 null_decodes = record {
   takes = λ octets x _ e. (tt, null_done octets x e);
   again = λ octets x _ p. rw p refl;
@@ -39,7 +39,7 @@ bool_back : (x : Bool) → bool_of (bool_octet x ∷ []) ≡ Ok x
 bool_back true = refl
 bool_back false = refl
 
-bool_decodes : Decodes bool_contents
+pub bool_decodes : Decodes bool_contents
 bool_decodes = record {
   takes = λ octets x _ e. (tt, bool_done octets x e);
   again = λ octets x _ p. rw p (bool_back x);
@@ -55,30 +55,39 @@ utf8_done octets x e =
 utf8_back : (octets x : List ℕ) → IsUtf8 x → octets ≡ x → utf8_of octets ≡ Ok x
 utf8_back octets x h e = rw (e, is_utf8-from_IsUtf8 x h) refl
 
-utf8_decodes : Decodes utf8_contents
+pub utf8_decodes : Decodes utf8_contents
 utf8_decodes = record {
   takes = λ octets x _ e. utf8_done octets x e;
   again = utf8_back;
   one = λ s t x _ p q. p ∙ sym q;
 }
 
-pub null_lawful : Lawful (primitive_form (record { 0 = 5 }) null_contents)
-null_lawful = primitive_lawful (record { 0 = 5 }) null_contents null_decodes
+pub null_readable : Readable (primitive_form (record { 0 = 5 }) null_contents)
+null_readable = primitive_readable (record { 0 = 5 }) null_contents null_decodes
 
-pub bool_lawful : Lawful (primitive_form (record { 0 = 1 }) bool_contents)
-bool_lawful = primitive_lawful (record { 0 = 1 }) bool_contents bool_decodes
+pub null_writable : Writable (primitive_form (record { 0 = 5 }) null_contents)
+null_writable = primitive_writable (record { 0 = 5 }) null_contents null_decodes
 
-pub utf8_lawful : Lawful (primitive_form (record { 0 = 12 }) utf8_contents)
-utf8_lawful = primitive_lawful (record { 0 = 12 }) utf8_contents utf8_decodes
+pub bool_readable : Readable (primitive_form (record { 0 = 1 }) bool_contents)
+bool_readable = primitive_readable (record { 0 = 1 }) bool_contents bool_decodes
+
+pub bool_writable : Writable (primitive_form (record { 0 = 1 }) bool_contents)
+bool_writable = primitive_writable (record { 0 = 1 }) bool_contents bool_decodes
+
+pub utf8_readable : Readable (primitive_form (record { 0 = 12 }) utf8_contents)
+utf8_readable = primitive_readable (record { 0 = 12 }) utf8_contents utf8_decodes
+
+pub utf8_writable : Writable (primitive_form (record { 0 = 12 }) utf8_contents)
+utf8_writable = primitive_writable (record { 0 = 12 }) utf8_contents utf8_decodes
 
 pub null_tagged : Tagged (record { 0 = 5 }) (primitive_form (record { 0 = 5 }) null_contents)
-null_tagged = primitive_tagged (record { 0 = 5 }) null_contents null_decodes
+null_tagged = primitive_tagged (record { 0 = 5 }) null_contents
 
 pub bool_tagged : Tagged (record { 0 = 1 }) (primitive_form (record { 0 = 1 }) bool_contents)
-bool_tagged = primitive_tagged (record { 0 = 1 }) bool_contents bool_decodes
+bool_tagged = primitive_tagged (record { 0 = 1 }) bool_contents
 
 pub utf8_tagged : Tagged (record { 0 = 12 }) (primitive_form (record { 0 = 12 }) utf8_contents)
-utf8_tagged = primitive_tagged (record { 0 = 12 }) utf8_contents utf8_decodes
+utf8_tagged = primitive_tagged (record { 0 = 12 }) utf8_contents
 
 pub utf8_ok : (octets text : List ℕ) → text ≡ octets → IsUtf8 octets → utf8_of octets ≡ Ok text
 utf8_ok octets text e h = utf8_back octets text (subst IsUtf8 (sym e) h) (sym e)

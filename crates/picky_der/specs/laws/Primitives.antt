@@ -4,7 +4,7 @@ use Rattle.picky_asn1_tag.specs.declared.tag.Tag.{Tag}
 use Rattle.picky_der.specs.declared.fault.DerError.{DerError}
 use Rattle.picky_der.specs.Length.{TailIsBytes, value_of}
 use Rattle.picky_der.specs.Reading.{◌>>=◌, value_at}
-use Rattle.picky_der.specs.Form.{Form, Lawful, Tagged, IsValue, IsOneValue, BeginsBy, Takes, GivesOrTooDeep}
+use Rattle.picky_der.specs.Form.{Form, Readable, Writable, Tagged, IsValue, IsOneValue, BeginsBy, Takes, GivesOrTooDeep}
 use Rattle.picky_der.specs.Primitive.{Contents, Decodes, SpellsPrimitive, primitive_at, primitive_form}
 use Rattle.picky_der.specs.laws.Steps.{ok_is, bind_ok, pair_fst, pair_snd}
 use Rattle.picky_der.specs.laws.Headers.{IsValue-same, IsValue-again, IsBytes-contents, BeginsBy-value, value_takes, value_shorter, eqb_same}
@@ -40,8 +40,8 @@ module _ {X : Type 0} (tag : Tag) (k : Contents X) (law : Decodes k) where
       let w = bind_ok (k.decode v.0.0) (λ x. Ok (x, v.0.1)) (x, rest) v.2 in
       omega (arith, value_shorter tag bytes v.0.0 v.0.1 v.1, ap length (pair_snd _ _ (ok_is (w.0, v.0.1) (x, rest) w.2)))
 
-  pub primitive_lawful : Lawful (primitive_form tag k)
-  primitive_lawful = record {
+  pub primitive_readable : Readable (primitive_form tag k)
+  primitive_readable = record {
     one_value = λ s x _ p. record { tag = tag; contents = p.octets; value = p.value };
     prefix_free = λ x y s t a b f g p q e.
         let h = IsValue-same tag p.octets q.octets s t a b p.value q.value e in
@@ -50,6 +50,10 @@ module _ {X : Type 0} (tag : Tag) (k : Contents X) (law : Decodes k) where
     again = primitive_again;
     shorter = primitive_shorter;
     first = λ s x _ p. BeginsBy-value (λ b. eqb b tag.0) tag p.octets s (eqb_same tag.0) p.value;
+  }
+
+  pub primitive_writable : Writable (primitive_form tag k)
+  primitive_writable = record {
     encodes = λ s x _ p. p.1;
     written = λ s x p. record { tag = tag; contents = p.1.octets; value = p.1.value };
     one_encoding = λ s t x p q.
@@ -59,8 +63,8 @@ module _ {X : Type 0} (tag : Tag) (k : Contents X) (law : Decodes k) where
     accepted = λ x f r. r f;
   }
 
-  pub primitive_tagged : Tagged tag (primitive_form tag k)
-  primitive_tagged = record {
-    first = λ s x _ p. BeginsBy-value (λ b. eqb b tag.0) tag p.octets s (eqb_same tag.0) p.value;
-    no_other = λ b. refl;
-  }
+pub primitive_tagged : {X : Type 0} (tag : Tag) (k : Contents X) → Tagged tag (primitive_form tag k)
+primitive_tagged tag k = record {
+  first = λ s x _ p. BeginsBy-value (λ b. eqb b tag.0) tag p.octets s (eqb_same tag.0) p.value;
+  no_other = λ b. refl;
+}

@@ -5,7 +5,7 @@ use Rattle.std.proofs.lemmas.Bool.{ne_eqb}
 use Rattle.std.proofs.lemmas.List.{append-nil}
 use Rattle.picky_der.specs.Length.{TailIsBytes, value_of}
 use Rattle.picky_der.specs.Reading.{◌>>=◌, raw_at, end_at}
-use Rattle.picky_der.specs.Form.{Lawful, IsOneValue, BeginsBy, Takes}
+use Rattle.picky_der.specs.Form.{Readable, Writable, IsOneValue, BeginsBy, Takes}
 use Rattle.picky_der.specs.Raw.{raw_form, raw_whole}
 use Rattle.picky_der.specs.laws.Steps.{ok_is, pair_fst, pair_snd}
 use Rattle.picky_der.specs.laws.Headers.{raw_again, raw_takes, raw_shorter, end_takes, BeginsBy-value}
@@ -27,14 +27,18 @@ raw_first s x v e =
     let test : not (eqb (v.tag.0 % 32) 31) ≡ true = rw (ne_eqb (v.tag.0 % 32) 31 v.value.one_byte) refl in
     rw e (BeginsBy-value (λ b. not (eqb (b % 32) 31)) v.tag v.contents x test v.value)
 
-pub raw_lawful : Lawful raw_form
-raw_lawful = record {
+pub raw_readable : Readable raw_form
+raw_readable = record {
   one_value = λ s x f p. subst IsOneValue (sym p) f;
   prefix_free = raw_prefix_free;
   takes = λ _ bytes x rest fits e. raw_takes_form bytes x rest fits e;
   again = λ _ s rest x f p. inl (rw p (raw_again x rest f));
   shorter = λ _ bytes x rest e. raw_shorter bytes x rest e;
   first = raw_first;
+}
+
+pub raw_writable : Writable raw_form
+raw_writable = record {
   encodes = λ s x _ p. p.1;
   written = λ s x p. subst IsOneValue (sym p.1) p.0;
   one_encoding = λ s t x p q. p.1 ∙ sym q.1;

@@ -5,7 +5,7 @@ use Rattle.picky_der.specs.declared.fault.DerError.{DerError}
 use Rattle.picky_der.specs.declared.fault.DerError.TheVariants.{Truncated, WrongTag, BadLength, BadValue, TrailingBytes, TooDeep, OutOfMemory}
 use Rattle.picky_der.specs.Length.{TailIsBytes}
 use Rattle.picky_der.specs.Reading.{◌>>=◌, Gives, raw_at, end_at}
-use Rattle.picky_der.specs.Form.{Form, Lawful, GivesOrTooDeep, OkUnlessDeep, Appends, whole}
+use Rattle.picky_der.specs.Form.{Form, Readable, Writable, GivesOrTooDeep, OkUnlessDeep, Appends, whole}
 use Rattle.picky_der.specs.laws.Steps.{bind_ok, ok_is}
 use Rattle.picky_der.specs.laws.Headers.{raw_again, end_takes, end_again}
 
@@ -26,7 +26,7 @@ OkUnlessDeep-from view (Err BadValue) read y p (inr q) = absurd (cc (p, q))
 OkUnlessDeep-from view (Err TrailingBytes) read y p (inl q) = absurd (cc (p, q))
 OkUnlessDeep-from view (Err TrailingBytes) read y p (inr q) = absurd (cc (p, q))
 
-module _ {X : Type 0} (f : Form X) (law : Lawful f) where
+module _ {X : Type 0} (f : Form X) (law : Readable f) where
   -- a value that was taken with nothing left is spelled by all the bytes
   pub taken_whole : (bytes s r : List ℕ) (y x : X) → f.in_form y → f.Spells s y → bytes ≡ s ++ r → r ≡ [] → y ≡ x → f.in_form x × f.Spells bytes x
   taken_whole bytes s r y x formed spelled parts none same =
@@ -53,6 +53,7 @@ module _ {X : Type 0} (f : Form X) (law : Lawful f) where
         | inr e ↦ inr (rw e refl)
       ]
 
+module _ {X : Type 0} (f : Form X) (law : Writable f) where
   -- an encoding that stands alone is one value
   pub raw_alone : (bytes : List ℕ) (x : X) → f.Encodes bytes x → raw_at bytes ≡ Ok (bytes, [])
   raw_alone bytes x encoded = rw append-nil at (raw_again bytes [] (law.written bytes x encoded))

@@ -10,10 +10,10 @@ returns-clause-found g c =
     let f = g.T.DerForm.form in
     let bytes = c.args.bytes.now in
     IfOk-from g.T.DerForm.stands_for (λ x. f.in_form x × f.Spells bytes x) c.all.result (whole f.reading bytes) c.all.ensures
-    (λ x e. whole_takes f g.T.DerForm.lawful bytes x (TailIsBytes-of bytes (λ i. omega (arith, c.type_inv.bytes i))) e)
+    (λ x e. whole_takes f g.met.T.DerRead.readable bytes x (TailIsBytes-of bytes (λ i. omega (arith, c.type_inv.bytes i))) e)
 
 pub returns-clause-every : goal.returns-clause-every
 returns-clause-every g c x formed spelled =
     let f = g.T.DerForm.form in
     let bytes = c.args.bytes.now in
-    OkUnlessDeep-from g.T.DerForm.stands_for c.all.result (whole f.reading bytes) x c.all.ensures (whole_again f g.T.DerForm.lawful bytes x formed spelled)
+    OkUnlessDeep-from g.T.DerForm.stands_for c.all.result (whole f.reading bytes) x c.all.ensures (whole_again f g.met.T.DerRead.readable bytes x formed spelled)

@@ -5,4 +5,4 @@ pub returns-clause-raw : goal.returns-clause-raw
 returns-clause-raw g c =
     let x = g.T.DerForm.stands_for c.args.value.now in
     let a = c.in_ok-write_der.ensures in
-    raw_appended g.T.DerForm.form g.T.DerForm.lawful c.new-out.result.items c.write_der.new.out.items x c.new-out.ensures.items a
+    raw_appended g.T.DerForm.form g.met.T.DerWrite.writable c.new-out.result.items c.write_der.new.out.items x c.new-out.ensures.items a
