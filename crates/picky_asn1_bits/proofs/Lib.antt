@@ -1,4 +1,5 @@
 pub mod LowBits
 pub mod Numbers
 pub mod OneBit
+pub mod Orders
 pub mod Resize

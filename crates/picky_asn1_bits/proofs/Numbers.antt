@@ -5,7 +5,7 @@ use Rattle.std.proofs.lemmas.Nat.{mul-add-lt}
 use Rattle.std.proofs.lemmas.Int.{ints}
 use Rattle.std.proofs.lemmas.Bool.{cases_lt, cases_eq, cases_Bool, ltb-true, le-ltb, lt-ltb}
 use Rattle.std.proofs.lemmas.Bool.Decides.{nat_tests}
-use Rattle.picky_asn1_bits.specs.Integer.{unsigned_of, int_of, IsShortest, repeats_sign, shortened}
+use Rattle.picky_asn1_bits.specs.Integer.{unsigned_of, int_of, IsShortest, repeats_sign, shortened, unsigned_spelling}
 
 abbrev pub IsBytes : List ℕ → Type 0
 IsBytes bytes = (i : ℕ) → get_or bytes i 0 < 256
@@ -117,3 +117,29 @@ shortened-drop bytes i within stays = elim (cases_lt (i + 1) (length bytes)) [
     at_most_one [] few = refl
     at_most_one (b ∷ []) few = refl
     at_most_one (b ∷ c ∷ rest) few = absurd (omega arith)
+
+-- a leading 00 changes no unsigned number
+zero_in_front : (bytes : List ℕ) → unsigned_of (0 ∷ bytes) ≡ unsigned_of bytes
+zero_in_front bytes = omega arith
+
+pub int_of-unsigned_spelling : (bytes : List ℕ) → int_of (unsigned_spelling bytes) ≡ pos (unsigned_of bytes)
+int_of-unsigned_spelling [] = refl
+int_of-unsigned_spelling (b ∷ bs) = elim (cases_lt b 128) [
+  | inl low ↦
+      ap (λ (r : Bool). int_of (shortened (if r then (b ∷ bs) else (0 ∷ b ∷ bs)))) (lt-ltb b 128 low)
+      ∙ int_of-shortened (b ∷ bs)
+      ∙ int_of_low b bs low
+  | inr high ↦
+      ap (λ (r : Bool). int_of (shortened (if r then (b ∷ bs) else (0 ∷ b ∷ bs)))) (le-ltb b 128 high)
+      ∙ int_of-shortened (0 ∷ b ∷ bs)
+      ∙ ap pos (zero_in_front (b ∷ bs))
+]
+
+pub IsShortest-unsigned_spelling : (bytes : List ℕ) → bytes ≢ [] → IsShortest (unsigned_spelling bytes)
+IsShortest-unsigned_spelling [] some = absurd (some refl)
+IsShortest-unsigned_spelling (b ∷ bs) some =
+    let P : Bool → Type 0 = λ r. IsShortest (shortened (if r then (b ∷ bs) else (0 ∷ b ∷ bs))) in
+    elim (cases_lt b 128) [
+      | inl low ↦ subst P (sym (lt-ltb b 128 low)) (IsShortest-shortened (b ∷ bs) some)
+      | inr high ↦ subst P (sym (le-ltb b 128 high)) (IsShortest-shortened (0 ∷ b ∷ bs) (λ (h : (0 ∷ b ∷ bs) ≡ []). cc))
+    ]

@@ -40,3 +40,8 @@ shortened [] = []
 shortened (b ∷ []) = b ∷ []
 shortened (b ∷ c ∷ bs) =
     if repeats_sign b c then shortened (c ∷ bs) else b ∷ c ∷ bs
+
+-- the shortest spelling of the number of big-endian bytes; no byte stays no byte
+abbrev pub unsigned_spelling : List ℕ → List ℕ
+unsigned_spelling [] = []
+unsigned_spelling (b ∷ bs) = shortened (if nat_lt b 128 then b ∷ bs else 0 ∷ b ∷ bs)

@@ -1,7 +1,7 @@
 // Whole numbers.
 ghost use Rattle.std.specs.Prelude.{◌≡◌, ◌≢◌, ◌↔◌, pos, ◌≤ℤ◌, ◌<ℤ◌, ◌++◌, ◌<◌, ◌≤◌, length, drop, [], IsTrue, IfOk, Some, codes};
 ghost use Rattle.picky_asn1_tag.specs.Hex.{hex_text};
-ghost use Rattle.picky_asn1_bits.specs.Integer.{int_of, unsigned_of, IsShortest, some_bytes, without_sign_byte, shortened, repeats_sign};
+ghost use Rattle.picky_asn1_bits.specs.Integer.{int_of, unsigned_of, IsShortest, some_bytes, without_sign_byte, shortened, repeats_sign, unsigned_spelling};
 
 use picky_asn1_tag::HexBytes;
 use picky_contract::Bytes;
@@ -61,6 +61,7 @@ impl IntegerAsn1 {
     /// The number of these big-endian bytes. For nonempty bytes it is the shortest spelling; no byte stays no byte.
     /// Refused for want of memory alone.
     pub fn from_bytes_be_unsigned(_alloc: Global, bytes: Vec<u8>) -> Result<IntegerAsn1, AllocError>
+        ensures value { IfOk result (λ i. i.0 ≡ unsigned_spelling bytes.items) }
         ensures number { IfOk result (λ i. int_of i.0 ≡ pos (unsigned_of bytes.items)) }
         ensures shortest { bytes.items ≢ [] → IfOk result (λ i. IsShortest i.0) }
         ensures none { bytes.items ≡ [] → IfOk result (λ i. i.0 ≡ []) }

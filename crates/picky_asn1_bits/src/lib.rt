@@ -8,9 +8,13 @@
 
 mod bit_string;
 mod integer;
+pub mod laws;
 mod octet_string;
 mod values;
 
 pub use bit_string::BitString;
 pub use integer::IntegerAsn1;
 pub use octet_string::OctetStringAsn1;
+
+#[cfg(test)]
+mod tests;
