@@ -1,0 +1,5 @@
+pub mod Moment
+pub mod DateText
+pub mod Reading
+pub mod Civil
+pub mod Faults

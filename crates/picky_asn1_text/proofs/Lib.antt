@@ -1,0 +1,4 @@
+pub mod Pairs
+pub mod Printing
+pub mod Plane
+pub mod Comparing

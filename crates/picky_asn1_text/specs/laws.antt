@@ -1,0 +1,2 @@
+-- What the laws of the traits rest on.
+pub mod Ascii
