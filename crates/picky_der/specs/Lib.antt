@@ -5,5 +5,6 @@ pub mod Plain
 pub mod Primitive
 pub mod Raw
 pub mod Reading
+pub mod Strings
 pub mod View
 pub mod laws

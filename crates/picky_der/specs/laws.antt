@@ -6,4 +6,5 @@ pub mod Plain
 pub mod Primitives
 pub mod Raw
 pub mod Steps
+pub mod Strings
 pub mod Whole

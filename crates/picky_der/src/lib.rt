@@ -3,7 +3,9 @@
 
 mod fault;
 mod form;
+mod integer;
 mod natural;
+mod octet_string;
 mod plain;
 mod raw;
 mod reader;
