@@ -3,7 +3,7 @@ ghost use Rattle.std.specs.Prelude.{◌≡◌, IfOk};
 ghost use Rattle.picky_asn1_wrapper.specs.Enclosed.{explicit_tag, enclosed_form, enclosed_at};
 ghost use Rattle.picky_asn1_wrapper.specs.laws.Enclosed.{enclosed_readable, enclosed_writable, enclosed_tagged, explicit_one_byte};
 
-use picky_asn1_tag::{Asn1Type, Asn1Value, CopyIn, Tag};
+use picky_asn1_tag::{Asn1Type, Asn1Value, CopyIn, Empty, Tag};
 use picky_der::{DerError, DerForm, DerRead, DerReader, DerTagged, DerWrite, write_value};
 use std::alloc::{AllocError, Global};
 use std::ops::{Deref, DerefMut};
@@ -59,6 +59,16 @@ impl<const N: u8, T: CopyIn> CopyIn for ExplicitContextTag<N, T> {
     fn copy_in(&self, alloc: Global) -> Result<ExplicitContextTag<N, T>, AllocError> {
         Ok(ExplicitContextTag(self.0.copy_in(alloc)?))
     }
+}
+
+impl<const N: u8, T: Empty> Empty for ExplicitContextTag<N, T> {
+    ghost IsDefault = { λ tagged. T.IsDefault tagged.0 };
+
+    fn empty(alloc: Global) -> Result<ExplicitContextTag<N, T>, AllocError> {
+        Ok(ExplicitContextTag(T::empty(alloc)?))
+    }
+
+    ghost one_default = { λ x y p. T.one_default x.0 y.0 p };
 }
 
 impl<const N: u8, T: DerForm> DerForm for ExplicitContextTag<N, T> {

@@ -7,7 +7,7 @@ ghost use Rattle.picky_asn1_wrapper.specs.Implicit.{implicit_form, implicit_at};
 ghost use Rattle.picky_asn1_wrapper.specs.laws.Enclosed.{implicit_one_byte};
 ghost use Rattle.picky_asn1_wrapper.specs.laws.Implicit.{implicit_readable, implicit_writable, implicit_tagged};
 
-use picky_asn1_tag::{Asn1Type, Asn1Value, CopyIn, Tag};
+use picky_asn1_tag::{Asn1Type, Asn1Value, CopyIn, Empty, Tag};
 use picky_der::{DerError, DerForm, DerRead, DerReader, DerTagged, DerWrite, write_value};
 use std::alloc::{AllocError, Global};
 use std::ops::{Deref, DerefMut};
@@ -62,6 +62,16 @@ impl<const N: u8, T: CopyIn> CopyIn for ImplicitContextTag<N, T> {
     fn copy_in(&self, alloc: Global) -> Result<ImplicitContextTag<N, T>, AllocError> {
         Ok(ImplicitContextTag(self.0.copy_in(alloc)?))
     }
+}
+
+impl<const N: u8, T: Empty> Empty for ImplicitContextTag<N, T> {
+    ghost IsDefault = { λ tagged. T.IsDefault tagged.0 };
+
+    fn empty(alloc: Global) -> Result<ImplicitContextTag<N, T>, AllocError> {
+        Ok(ImplicitContextTag(T::empty(alloc)?))
+    }
+
+    ghost one_default = { λ x y p. T.one_default x.0 y.0 p };
 }
 
 impl<const N: u8, T: DerTagged> DerForm for ImplicitContextTag<N, T> {

@@ -1,11 +1,12 @@
 // Values of one type, one after another.
-ghost use Rattle.std.specs.Prelude.{◌≡◌, [], ◌⊎◌, length, map, OnOk, IfErr};
+ghost use Rattle.std.specs.Prelude.{◌≡◌, [], ◌⊎◌, length, map, OnOk, IfOk, IfErr};
 ghost use Rattle.picky_der.specs.declared.fault.DerError.TheVariants.{OutOfMemory, BadValue};
 ghost use Rattle.picky_der.specs.Reading.{Gives};
 ghost use Rattle.picky_asn1_wrapper.specs.Lists.{SpellsAll, SomeRefused, items_at};
 
+use picky_asn1_tag::CopyIn;
 use picky_der::{DerError, DerRead, DerReader, DerWrite};
-use std::alloc::Global;
+use std::alloc::{AllocError, Global};
 
 /// Reads values up to the end of the reader.
 pub fn read_items<T: DerRead + Drop>(
@@ -35,4 +36,15 @@ pub fn write_items<T: DerWrite>(
         item.write_der(alloc, out)?;
     }
     Ok(())
+}
+
+/// A copy of each value, in order.
+pub fn copy_items<T: CopyIn + Drop>(alloc: Global, items: &[T]) -> Result<Vec<T>, AllocError>
+    ensures { IfOk result (λ copies. map T.meaning copies.items ≡ map T.meaning items.now) }
+{
+    let mut copies = Vec::new(alloc);
+    for item in items {
+        copies.push(item.copy_in(alloc)?)?;
+    }
+    Ok(copies)
 }

@@ -4,11 +4,12 @@ ghost use Rattle.picky_asn1_wrapper.specs.Lists.{list_form, list_at};
 ghost use Rattle.picky_asn1_wrapper.specs.laws.Lists.{list_readable, list_writable, list_tagged};
 ghost use Rattle.std.proofs.Common.{arith};
 
-use crate::items::{read_items, write_items};
-use picky_asn1_tag::{Asn1Type, Tag};
+use crate::items::{copy_items, read_items, write_items};
+use picky_asn1_tag::{Asn1Type, Asn1Value, CopyIn, Tag};
 use picky_der::{DerError, DerForm, DerRead, DerReader, DerTagged, DerWrite, write_value};
-use std::alloc::Global;
+use std::alloc::{AllocError, Global};
 use std::marker::Model;
+use std::ops::Deref;
 
 /// A SEQUENCE OF: values of one type in order (X.690 section 8.10). Contracts see it as their list.
 #[derive(Debug, Drop)]
@@ -33,6 +34,45 @@ impl<T> Asn1Type for Asn1SequenceOf<T> {
     const NAME: &'static str = "Asn1SequenceOf";
 
     ghost one_byte = { λ h. absurd (Prim.omega arith) };
+}
+
+impl<T> From<Vec<T>> for Asn1SequenceOf<T> {
+    ghost from_gives = { λ items list. list ≡ items.items };
+
+    fn from(items: Vec<T>) -> Asn1SequenceOf<T> {
+        Asn1SequenceOf(items)
+    }
+}
+
+impl<T> From<Asn1SequenceOf<T>> for Vec<T> {
+    ghost from_gives = { λ list items. items.items ≡ list };
+
+    fn from(list: Asn1SequenceOf<T>) -> Vec<T> {
+        let Asn1SequenceOf(items) = list;
+        items
+    }
+}
+
+impl<T> Deref for Asn1SequenceOf<T> {
+    type Target = Vec<T>;
+
+    ghost deref_gives = { λ list items. items.items ≡ list };
+
+    fn deref(&self) -> &Vec<T> {
+        &self.0
+    }
+}
+
+impl<T: Asn1Value> Asn1Value for Asn1SequenceOf<T> {
+    ghost Meaning = { List T.Meaning };
+
+    ghost meaning = { λ list. map T.meaning list };
+}
+
+impl<T: CopyIn + Drop> CopyIn for Asn1SequenceOf<T> {
+    fn copy_in(&self, alloc: Global) -> Result<Asn1SequenceOf<T>, AllocError> {
+        Ok(Asn1SequenceOf(copy_items(alloc, &self.0)?))
+    }
 }
 
 impl<T: DerForm> DerForm for Asn1SequenceOf<T> {
@@ -97,6 +137,45 @@ impl<T> Asn1Type for Asn1SetOf<T> {
     const NAME: &'static str = "Asn1SetOf";
 
     ghost one_byte = { λ h. absurd (Prim.omega arith) };
+}
+
+impl<T> From<Vec<T>> for Asn1SetOf<T> {
+    ghost from_gives = { λ items list. list ≡ items.items };
+
+    fn from(items: Vec<T>) -> Asn1SetOf<T> {
+        Asn1SetOf(items)
+    }
+}
+
+impl<T> From<Asn1SetOf<T>> for Vec<T> {
+    ghost from_gives = { λ list items. items.items ≡ list };
+
+    fn from(list: Asn1SetOf<T>) -> Vec<T> {
+        let Asn1SetOf(items) = list;
+        items
+    }
+}
+
+impl<T> Deref for Asn1SetOf<T> {
+    type Target = Vec<T>;
+
+    ghost deref_gives = { λ list items. items.items ≡ list };
+
+    fn deref(&self) -> &Vec<T> {
+        &self.0
+    }
+}
+
+impl<T: Asn1Value> Asn1Value for Asn1SetOf<T> {
+    ghost Meaning = { List T.Meaning };
+
+    ghost meaning = { λ list. map T.meaning list };
+}
+
+impl<T: CopyIn + Drop> CopyIn for Asn1SetOf<T> {
+    fn copy_in(&self, alloc: Global) -> Result<Asn1SetOf<T>, AllocError> {
+        Ok(Asn1SetOf(copy_items(alloc, &self.0)?))
+    }
 }
 
 impl<T: DerForm> DerForm for Asn1SetOf<T> {

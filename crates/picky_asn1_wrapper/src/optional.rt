@@ -2,6 +2,7 @@
 ghost use Rattle.std.specs.Prelude.{◌≡◌, ◌↔◌, IsTrue, IfOk};
 ghost use Rattle.picky_asn1_wrapper.specs.Optional.{stands_next, ReadsOptional, WritesOptional};
 
+use crate::equal_meaning::EqualMeaning;
 use picky_asn1_tag::{Asn1Value, CopyIn, Empty};
 use picky_der::{DerError, DerRead, DerReader, DerWrite};
 use std::alloc::{AllocError, Global};
@@ -57,12 +58,6 @@ impl<T: Empty> Empty for Optional<T> {
     }
 
     ghost one_default = { λ x y p. T.one_default x.0 y.0 p };
-}
-
-/// A type whose `==` tells values of different meaning apart, and no others.
-pub trait EqualMeaning: Asn1Value + PartialEq {
-    /// Values are equal exactly where they mean the same.
-    ghost equal_meaning: { (x y : Self) → (IsTrue (Self.eq x y)) ↔ (Self.meaning x ≡ Self.meaning y) };
 }
 
 impl<T: Empty + EqualMeaning + Drop> Optional<T> {

@@ -36,6 +36,9 @@ impl<'a> Model for DerReader<'a> {
     ghost invariant = { λ r. r.depth ≤ 256 };
 }
 
+// The most readers in which one may be nested.
+const DEEPEST: u16 = 256;
+
 fn number_of(bytes: &[u8]) -> u64
     requires { length bytes.now ≤ 8 }
     ensures { result ≡ number_of bytes.now }
@@ -246,7 +249,7 @@ impl<'a> DerReader<'a> {
         ensures depth { IfOk result (λ x. x.depth ≡ self.old.depth + 1) }
     {
         let (contents, left) = value(tag, self.left)?;
-        if 256 <= self.depth {
+        if DEEPEST <= self.depth {
             return Err(DerError::TooDeep);
         }
         self.left = left;
@@ -268,7 +271,7 @@ impl<'a> DerReader<'a> {
     {
         let (contents, left) = value(tag, self.left)?;
         let bytes = whole_bytes(contents)?;
-        if 256 <= self.depth {
+        if DEEPEST <= self.depth {
             return Err(DerError::TooDeep);
         }
         self.left = left;

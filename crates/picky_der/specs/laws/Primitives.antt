@@ -1,12 +1,11 @@
 -- The laws of a type whose contents octets are decoded.
-use Rattle.std.proofs.Common.{◌≡◌, ◌≢◌, ℕ, ◌%◌, ◌<◌, eqb, List, [], ◌∷◌, ◌++◌, length, Result, Ok, Err, refl, sym, ap, subst, ◌∙◌, arith, inl}
+use Rattle.std.proofs.Common.{◌≡◌, ℕ, ◌<◌, eqb, List, ◌++◌, length, Ok, refl, sym, ap, subst, ◌∙◌, arith, inl}
 use Rattle.picky_asn1_tag.specs.declared.tag.Tag.{Tag}
-use Rattle.picky_der.specs.declared.fault.DerError.{DerError}
 use Rattle.picky_der.specs.Length.{TailIsBytes, value_of}
 use Rattle.picky_der.specs.Reading.{◌>>=◌, value_at}
-use Rattle.picky_der.specs.Form.{Form, Readable, Writable, Tagged, IsValue, IsOneValue, BeginsBy, Takes, GivesOrTooDeep}
+use Rattle.picky_der.specs.Form.{Readable, Writable, Tagged, IsValue, Takes, GivesOrTooDeep}
 use Rattle.picky_der.specs.Primitive.{Contents, Decodes, SpellsPrimitive, primitive_at, primitive_form}
-use Rattle.picky_der.specs.laws.Steps.{ok_is, bind_ok, pair_fst, pair_snd}
+use Rattle.picky_der.specs.laws.Steps.{ok_is, bind_ok, pair_snd}
 use Rattle.picky_der.specs.laws.Headers.{IsValue-same, IsValue-again, IsBytes-contents, BeginsBy-value, value_takes, value_shorter, eqb_same}
 
 module _ {X : Type 0} (tag : Tag) (k : Contents X) (law : Decodes k) where

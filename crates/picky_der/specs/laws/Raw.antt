@@ -1,13 +1,13 @@
 -- The laws of a value kept as its bytes.
-use Rattle.std.proofs.Common.{◌≡◌, ◌≢◌, ℕ, ◌%◌, true, eqb, List, [], ◌∷◌, ◌++◌, Result, Ok, refl, sym, ap, subst, ◌∙◌, inl}
+use Rattle.std.proofs.Common.{◌≡◌, ℕ, ◌%◌, true, eqb, List, [], ◌++◌, Ok, refl, sym, ap, subst, ◌∙◌, inl}
 use Rattle.std.specs.Prelude.{not}
 use Rattle.std.proofs.lemmas.Bool.{ne_eqb}
 use Rattle.std.proofs.lemmas.List.{append-nil}
-use Rattle.picky_der.specs.Length.{TailIsBytes, value_of}
-use Rattle.picky_der.specs.Reading.{◌>>=◌, raw_at, end_at}
+use Rattle.picky_der.specs.Length.{TailIsBytes}
+use Rattle.picky_der.specs.Reading.{raw_at, end_at}
 use Rattle.picky_der.specs.Form.{Readable, Writable, IsOneValue, BeginsBy, Takes}
-use Rattle.picky_der.specs.Raw.{raw_form, raw_whole}
-use Rattle.picky_der.specs.laws.Steps.{ok_is, pair_fst, pair_snd}
+use Rattle.picky_der.specs.Raw.{raw_form}
+use Rattle.picky_der.specs.laws.Steps.{ok_is, pair_fst}
 use Rattle.picky_der.specs.laws.Headers.{raw_again, raw_takes, raw_shorter, end_takes, BeginsBy-value}
 
 raw_prefix_free : (x y s t a b : List ℕ) → IsOneValue x → IsOneValue y → s ≡ x → t ≡ y → s ++ a ≡ t ++ b → (s ≡ t) × (x ≡ y)

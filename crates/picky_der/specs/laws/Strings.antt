@@ -1,16 +1,14 @@
 -- The contents octets of INTEGERs and OCTET STRINGs are decoded.
-use Rattle.std.proofs.Common.{◌≡◌, ◌≢◌, ℕ, ◌<◌, ◌≤◌, Bool, true, false, cond, ltb, leb, eqb, List, [], ◌∷◌, Result, Ok, Err, refl, sym, ap, subst, ◌∙◌, arith, inl, inr}
+use Rattle.std.proofs.Common.{◌≡◌, ℕ, ◌<◌, ◌≤◌, Bool, true, false, ltb, leb, eqb, List, [], ◌∷◌, Ok, refl, sym, ap, subst, ◌∙◌, arith, inl, inr}
 use Rattle.std.specs.Prelude.{not, ◌&&◌}
-use Rattle.std.proofs.lemmas.Bool.{cases_lt, eq-eqb, ne_eqb, eqb-true, ltb-false, le-ltb, lt-ltb, le-leb, lt-leb, leb-false}
+use Rattle.std.proofs.lemmas.Bool.{cases_lt, ne_eqb, ltb-false, le-ltb, lt-leb, leb-false}
 use Rattle.picky_asn1_bits.specs.Integer.{IsShortest, repeats_sign}
-use Rattle.picky_asn1_tag.specs.declared.tag.Tag.{Tag}
-use Rattle.picky_der.specs.declared.fault.DerError.{DerError}
 use Rattle.picky_der.specs.declared.fault.DerError.TheVariants.{BadValue}
 use Rattle.picky_der.specs.Form.{Readable, Writable, Tagged}
 use Rattle.picky_der.specs.Primitive.{Decodes, primitive_form}
 use Rattle.picky_der.specs.laws.Steps.{need_ok, ok_is}
 use Rattle.picky_der.specs.laws.Primitives.{primitive_readable, primitive_writable, primitive_tagged}
-use Rattle.picky_der.specs.Strings.{is_shortest, integer_of, integer_contents, octets_of, octets_contents}
+use Rattle.picky_der.specs.Strings.{is_shortest, integer_of, integer_contents, octets_contents}
 
 not-true : (t : Bool) → not t ≡ true → t ≡ false
 not-true true h = absurd cc

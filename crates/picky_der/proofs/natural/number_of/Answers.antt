@@ -1,4 +1,4 @@
-use Rattle.std.proofs.Common.{◌≡◌, ◌≤◌, ◌^◌, drop, length, arith}
+use Rattle.std.proofs.Common.{◌≡◌, ◌≤◌, ◌^◌, drop, arith}
 use Rattle.std.proofs.lemmas.List.{length-drop}
 use Rattle.picky_der.specs.Length.{number_after, number_of}
 use Rattle.picky_der.specs.laws.Natural.{number-overflows}
