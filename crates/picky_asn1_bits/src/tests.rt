@@ -290,10 +290,12 @@ const SHORTENED_UNSIGNED: [(&[u8], &[u8]); 4] = [
     (&[], &[]),
 ];
 
-const SHORTENED_SIGNED: [(&[u8], &[u8]); 4] = [
+const SHORTENED_SIGNED: [(&[u8], &[u8]); 6] = [
     (&[0xff, 0xff, 0x80], &[0x80]),
     (&[0xff, 0xff, 0x00], &[0xff, 0x00]),
     (&[0x00, 0x00, 0x80], &[0x00, 0x80]),
+    (&[0x00, 0x00], &[0x00]),
+    (&[0xff], &[0xff]),
     (&[], &[]),
 ];
 

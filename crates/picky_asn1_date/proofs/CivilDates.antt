@@ -1,14 +1,14 @@
 -- Conversions with the calendar.
-use Rattle.std.proofs.Common.{◌≡◌, ◌≢◌, ◌↔◌, ◌⊎◌, inl, inr, ℕ, ℤ, pos, negsuc, ◌<◌, ◌≤◌, refl, sym, ap, subst, ◌∙◌, Result, Ok, Err, Option, Some, None, IsSome, IfSome, ◌≤ℤ◌, arith}
+use Rattle.std.proofs.Common.{◌≡◌, ◌↔◌, inl, inr, ℕ, ℤ, pos, ◌<◌, ◌≤◌, refl, sym, subst, ◌∙◌, Option, Some, None, IsSome, IfSome, ◌≤ℤ◌, arith}
 use Rattle.std.specs.Option.{ok_or}
 use Rattle.std.proofs.lemmas.Int.{ints}
 use Rattle.jiff.specs.Types.{DateTime}
-use Rattle.picky_contract.specs.Refusals.{Table, Meets}
+use Rattle.picky_contract.specs.Refusals.{Meets}
 use Rattle.jiff.specs.Words.{IsDate}
-use Rattle.picky_asn1_date.specs.Civil.{Civil, civil_view, civil_of, IsMomentOf, to_civil_table, from_civil_table}
-use Rattle.picky_asn1_date.specs.Faults.{year_out_of_range, no_such_date, any_fault}
+use Rattle.picky_asn1_date.specs.Civil.{Civil, civil_view, IsMomentOf, to_civil_table, from_civil_table}
+use Rattle.picky_asn1_date.specs.Faults.{year_out_of_range, any_fault}
 use Rattle.picky_asn1_date.specs.declared.error.DateError.TheVariants.{YearOutOfRange, NoSuchDate}
-use Rattle.picky_asn1_date.specs.Moment.{Moment, IsMoment}
+use Rattle.picky_asn1_date.specs.Moment.{Moment}
 use Rattle.picky_asn1_date.proofs.Forms.{same_moment}
 
 pub to_late : (m : Moment) → 9999 < m.year → (to_civil_table m).refuses year_out_of_range

@@ -1,13 +1,12 @@
 -- Digits and Z are the text of numbers of two digits each.
-use Rattle.std.proofs.Common.{◌≡◌, ◌↔◌, ◌⊎◌, inl, inr, ℕ, zero, suc, ◌+◌, ◌-◌, ◌*◌, ◌/◌, ◌%◌, ◌<◌, ◌≤◌, List, [], ◌∷◌, ◌++◌, length, refl, sym, ap, subst, ◌∙◌, All, arith, append_assoc}
+use Rattle.std.proofs.Common.{◌≡◌, ◌↔◌, inl, inr, ℕ, zero, suc, ◌+◌, ◌-◌, ◌*◌, ◌/◌, ◌%◌, ◌<◌, ◌≤◌, List, [], ◌∷◌, ◌++◌, length, refl, sym, ap, ◌∙◌, All, arith}
 use Rattle.std.specs.Prelude.{codes}
 use Rattle.std.specs.Int.{IsInRange}
 use Rattle.std.proofs.lemmas.Bool.{cases_lt}
-use Rattle.std.proofs.lemmas.List.{append-nil}
 use Rattle.std.proofs.lemmas.List.Elements.{All-nil, All-cons, All-head, All-tail}
 use Rattle.picky_asn1_date.specs.Moment.{Moment, IsMoment}
 use Rattle.picky_asn1_date.specs.DateText.{two_digits, digits_and_z, utc_text, IsUtcYear, generalized_text, IsGeneralizedYear, IsDigitsAndZ}
-use Rattle.picky_asn1_date.specs.Reading.{IsSpelled, DateReading}
+use Rattle.picky_asn1_date.specs.Reading.{IsSpelled}
 use Rattle.picky_asn1_date.proofs.Places.{digits_onto, digits_onto_z, digits_onto_rest}
 use Rattle.picky_asn1_date.proofs.Forms.{utc_small, generalized_small, spelled}
 

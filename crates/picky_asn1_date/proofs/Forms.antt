@@ -1,12 +1,12 @@
 -- What the calls of a form answer.
-use Rattle.std.proofs.Common.{◌≡◌, ◌≢◌, ◌↔◌, ◌⊎◌, inl, inr, ℕ, ◌+◌, ◌*◌, ◌/◌, ◌%◌, ◌<◌, ◌≤◌, List, [], ◌∷◌, length, get_or, refl, sym, ap, subst, ◌∙◌, All, Option, Some, None, Result, Ok, Err, IsSome, IfSome, IfOk, arith}
+use Rattle.std.proofs.Common.{◌≡◌, ◌≢◌, ◌↔◌, inl, inr, ℕ, ◌+◌, ◌*◌, ◌/◌, ◌%◌, ◌<◌, ◌≤◌, List, [], ◌∷◌, length, get_or, refl, sym, ap, subst, ◌∙◌, All, Option, Some, None, Result, Ok, Err, IsSome, IfSome, IfOk, arith}
 use Rattle.std.specs.Option.{ok_or}
 use Rattle.std.proofs.lemmas.List.Elements.{All-nil, All-cons}
-use Rattle.picky_contract.specs.Refusals.{Table, Meets, OkOrMemory, the, need, done}
+use Rattle.picky_contract.specs.Refusals.{Meets, OkOrMemory, the, need}
 use Rattle.picky_contract.proofs.Tables.{Exact, the_exact, need_exact, done_exact, then_exact, found, complete}
 use Rattle.picky_asn1_date.specs.Moment.{Moment, IsMoment}
-use Rattle.picky_asn1_date.specs.DateText.{two_digits, digits_and_z, utc_text, IsUtcYear, generalized_text, IsGeneralizedYear}
-use Rattle.picky_asn1_date.specs.Faults.{Fault, year_out_of_range, bad_date_text, no_such_date, out_of_memory, any_fault, date_fault}
+use Rattle.picky_asn1_date.specs.DateText.{digits_and_z, utc_text, IsUtcYear, generalized_text, IsGeneralizedYear}
+use Rattle.picky_asn1_date.specs.Faults.{year_out_of_range, bad_date_text, no_such_date, any_fault, date_fault}
 use Rattle.picky_asn1_date.specs.Reading.{IsSpelled, DateReading, reading_table, writing_table}
 use Rattle.picky_asn1_date.specs.declared.error.DateError.{DateError}
 use Rattle.picky_asn1_date.specs.declared.error.DateError.TheVariants.{YearOutOfRange, BadDateText, NoSuchDate, OutOfMemory}

@@ -1,5 +1,5 @@
 -- The text of a date: the digits of its form and Z (X.680, clauses 46 and 47; X.690, 11.7 and 11.8; RFC 5280, 4.1.2.5).
-use Rattle.std.specs.Prelude.{◌≡◌, ℕ, ◌+◌, ◌/◌, ◌%◌, ◌<◌, ◌≤◌, List, [], ◌∷◌, ◌++◌, length, All, codes}
+use Rattle.std.specs.Prelude.{◌≡◌, ℕ, ◌+◌, ◌/◌, ◌%◌, ◌≤◌, List, [], ◌∷◌, ◌++◌, length, All, codes}
 use Rattle.std.specs.Int.{IsInRange}
 use Rattle.picky_asn1_date.specs.Moment.{Moment}
 

@@ -17,3 +17,6 @@ mod value;
 pub use date::{Date, GeneralizedTime, UTCTime};
 pub use error::DateError;
 pub use repr::{GeneralizedTimeRepr, TimeRepr, UTCTimeRepr};
+
+#[cfg(test)]
+mod tests;

@@ -1,9 +1,7 @@
 -- What the constructors of restricted strings answer (own).
-use Rattle.std.specs.Prelude.{ℕ, List, Option, Some, None}
-use Rattle.picky_contract.specs.Refusals.{Table, need, done, ◌>>=◌}
+use Rattle.std.specs.Prelude.{Option, Some, None}
 use Rattle.picky_asn1_text.specs.declared.error.CharSetError.{CharSetError}
 use Rattle.picky_asn1_text.specs.declared.error.CharSetError.TheVariants.{Invalid, OutOfMemory}
-use Rattle.picky_asn1_text.specs.Bmp.{IsWithinPlane, two_bytes_each}
 
 -- a refusal other than want of memory
 pub data Fault : Type 0 where

@@ -2,8 +2,15 @@
 ghost use Rattle.std.specs.Prelude.{◌≡◌, ℕ, List, [], Some};
 ghost use Rattle.picky_asn1_tag.specs.Default.{one_default};
 ghost use Rattle.picky_asn1_text.specs.Print.{text_or_hex};
+ghost use Rattle.picky_asn1_text.specs.declared.char_set.NumericCharSet.{NumericCharSet};
+ghost use Rattle.picky_asn1_text.specs.declared.char_set.PrintableCharSet.{PrintableCharSet};
+ghost use Rattle.picky_asn1_text.specs.declared.char_set.Utf8CharSet.{Utf8CharSet};
+ghost use Rattle.picky_asn1_text.specs.declared.char_set.Ia5CharSet.{Ia5CharSet};
+ghost use Rattle.picky_asn1_text.specs.declared.char_set.BmpCharSet.{BmpCharSet};
 
-use crate::char_set::CharSet;
+use crate::char_set::{
+    BmpCharSet, CharSet, Ia5CharSet, NumericCharSet, PrintableCharSet, Utf8CharSet,
+};
 use crate::restricted_string::{BmpString, Ia5String, RestrictedString, Utf8String};
 use picky_asn1_tag::{Asn1Value, CopyIn, Empty, HexBytes};
 use std::alloc::{AllocError, Global};
@@ -67,5 +74,65 @@ impl<C: CharSet> fmt::Debug for RestrictedString<C> {
     /// The set's name, `(`, what Display prints, and `)`.
     fn fmt<W: fmt::Write>(&self, f: &mut fmt::Formatter<W>) -> fmt::Result {
         write!(f, "{}({self})", C::NAME)
+    }
+}
+
+impl Asn1Value for NumericCharSet {
+    ghost Meaning = { NumericCharSet };
+
+    ghost meaning = { λ set. set };
+}
+
+impl CopyIn for NumericCharSet {
+    fn copy_in(&self, _alloc: Global) -> Result<NumericCharSet, AllocError> {
+        Ok(*self)
+    }
+}
+
+impl Asn1Value for PrintableCharSet {
+    ghost Meaning = { PrintableCharSet };
+
+    ghost meaning = { λ set. set };
+}
+
+impl CopyIn for PrintableCharSet {
+    fn copy_in(&self, _alloc: Global) -> Result<PrintableCharSet, AllocError> {
+        Ok(*self)
+    }
+}
+
+impl Asn1Value for Utf8CharSet {
+    ghost Meaning = { Utf8CharSet };
+
+    ghost meaning = { λ set. set };
+}
+
+impl CopyIn for Utf8CharSet {
+    fn copy_in(&self, _alloc: Global) -> Result<Utf8CharSet, AllocError> {
+        Ok(*self)
+    }
+}
+
+impl Asn1Value for Ia5CharSet {
+    ghost Meaning = { Ia5CharSet };
+
+    ghost meaning = { λ set. set };
+}
+
+impl CopyIn for Ia5CharSet {
+    fn copy_in(&self, _alloc: Global) -> Result<Ia5CharSet, AllocError> {
+        Ok(*self)
+    }
+}
+
+impl Asn1Value for BmpCharSet {
+    ghost Meaning = { BmpCharSet };
+
+    ghost meaning = { λ set. set };
+}
+
+impl CopyIn for BmpCharSet {
+    fn copy_in(&self, _alloc: Global) -> Result<BmpCharSet, AllocError> {
+        Ok(*self)
     }
 }

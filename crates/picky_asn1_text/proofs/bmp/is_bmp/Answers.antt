@@ -1,4 +1,4 @@
-use Rattle.std.proofs.Common.{◌≡◌, refl, subst, sym}
+use Rattle.std.proofs.Common.{refl, subst, sym}
 use Rattle.picky_asn1_text.specs.Bmp.{IsBmp}
 use Rattle.picky_asn1_text.proofs.Pairs.{bmp_cons, bmp_uncons, ended}
 use Rattle.picky_asn1_text.proofs.bmp.is_bmp.Goals as goal

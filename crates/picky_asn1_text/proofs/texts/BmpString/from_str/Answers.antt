@@ -3,7 +3,7 @@ use Rattle.std.proofs.lemmas.Iterator.{YieldsList-from_chars}
 use Rattle.std.proofs.lemmas.Iterator.Consumers.{YieldsList-turn, YieldsList-end}
 use Rattle.std.proofs.lemmas.List.Elements.{All-push}
 use Rattle.std.proofs.lemmas.Str.{scalars-chars}
-use Rattle.picky_asn1_text.specs.Bmp.{IsBmp, two_bytes_each}
+use Rattle.picky_asn1_text.specs.Bmp.{two_bytes_each}
 use Rattle.picky_asn1_text.proofs.Pairs.{bytes_push, within_at, bmp_from}
 use Rattle.picky_asn1_text.proofs.texts.BmpString.from_str.Goals as goal
 

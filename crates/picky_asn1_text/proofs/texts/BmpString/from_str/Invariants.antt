@@ -1,4 +1,4 @@
-use Rattle.std.proofs.Common.{◌≡◌, ◌<◌, length, All}
+use Rattle.std.proofs.Common.{◌≡◌, ◌<◌, All}
 use Rattle.picky_asn1_text.specs.Bmp.{two_bytes_each}
 use Rattle.picky_asn1_text.proofs.texts.BmpString.from_str.Given as goal
 

@@ -1,4 +1,4 @@
-use Rattle.std.proofs.Common.{◌≡◌, ◌++◌, refl, sym, subst, ap, ◌∙◌, string_bytes, chars}
+use Rattle.std.proofs.Common.{◌++◌, sym, subst, ap, ◌∙◌, string_bytes, chars}
 use lib.Utf8.{encode}
 use Rattle.std.proofs.lemmas.Str.{chars-nil, IsUtf8-string_bytes}
 use Rattle.picky_asn1_text.specs.Bmp.{IsBmp, two_bytes_each}

@@ -1,0 +1,3 @@
+//! Bit strings.
+
+pub use picky_asn1_bits::BitString;

@@ -1,0 +1,3 @@
+//! Object identifiers.
+
+pub use picky_asn1_oid::{ObjectIdentifier, OidError};

@@ -1,0 +1,3 @@
+//! Tags.
+
+pub use picky_asn1_tag::{Encoding, Tag, TagClass};

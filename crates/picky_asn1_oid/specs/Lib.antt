@@ -1,0 +1,4 @@
+pub mod Arcs
+pub mod Fault
+pub mod Numbers
+pub mod Dotted

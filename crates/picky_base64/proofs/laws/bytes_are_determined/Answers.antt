@@ -1,0 +1,5 @@
+use Rattle.picky_base64.proofs.Encoding.{once}
+use Rattle.picky_base64.proofs.laws.bytes_are_determined.Goals as goal
+
+pub returns : goal.returns
+returns c = once

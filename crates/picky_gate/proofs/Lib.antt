@@ -1,0 +1,12 @@
+pub mod Pieces
+pub mod Values
+pub mod Moments
+pub mod TextMaps
+pub mod ClaimsLemmas
+pub mod Vouching
+pub mod Admitting
+pub mod Rings
+pub mod Delivery
+pub mod Deciding
+pub mod Theorem
+pub mod Once

@@ -1,0 +1,23 @@
+use Rattle.std.proofs.Common.{inr, refl, ap, ◌∙◌, rules}
+use Rattle.picky_gate.specs.declared.documents.Document.{Document}
+use Rattle.picky_gate.specs.Asked.{admit_of}
+use Rattle.picky_gate.specs.Reply.{unread, reply_text}
+use Rattle.picky_gate.proofs.Delivery.{same_text, is_reply}
+use Rattle.picky_gate.proofs.program.perform.Goals as goal
+
+pub returns-in-Err-Failed-clause-replies : goal.returns-in-Err-Failed-clause-replies
+returns-in-Err-Failed-clause-replies g c =
+    inr (
+      unread c.in-Err-Failed.document,
+      ((admit_of c.in-Some.command, c.in-Some.ensures), search rules),
+      same_text _ _ _ _ _ _ _ _ (c.unread_line.ensures ∙ ap (λ (d : Document). reply_text (unread d)) c.in-Err-Failed.document-is) refl c.finish-in-Err-Failed.ensures.delivers,
+    )
+
+pub returns-in-Ok-answer-clause-replies : goal.returns-in-Ok-answer-clause-replies
+returns-in-Ok-answer-clause-replies g c =
+    let said = c.in-Ok-answer.ensures in
+    inr (
+      said.reply,
+      is_reply _ _ _ (admit_of c.in-Some.command) _ said.reply c.in-Some.ensures c.in-Ok.ensures.bytes said.is,
+      same_text _ _ _ _ _ _ _ _ (c.as_bytes.ensures.value ∙ said.text) said.status c.finish-in-Ok-answer.ensures.delivers,
+    )

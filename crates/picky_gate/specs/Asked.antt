@@ -1,0 +1,16 @@
+-- The values of the words as the code lends them (own).
+use Rattle.std.specs.Prelude.{◌≡◌, ◌≤◌, List, [], ◌∷◌, length}
+use Rattle.picky_gate.specs.declared.asked.AdmitWords.{AdmitWords}
+use Rattle.picky_gate.specs.declared.words.Values.{Values}
+use Rattle.picky_gate.specs.declared.words.Values.TheVariants.{Absent, One, Many}
+use Rattle.picky_gate.specs.Command.{Text, Admit}
+
+-- what is asked, without where its texts lie
+abbrev pub admit_of : AdmitWords → Admit
+admit_of w = record { keys = w.keys.now; records = w.records.now; text = w.text.now; now = w.now }
+
+-- how many values there are
+abbrev pub AreValues : List Text → Values → Type 0
+AreValues values Absent = values ≡ []
+AreValues values (One value) = values ≡ value.now ∷ []
+AreValues values Many = 2 ≤ length values

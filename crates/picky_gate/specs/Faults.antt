@@ -1,0 +1,34 @@
+-- Why the program has no admitted text: a document that is no grammar's, or a refusal (own).
+use Rattle.std.specs.Prelude.{Option, Some, None, option_map}
+use Rattle.picky_key.specs.declared.recorded.RecordFault.{RecordFault}
+use Rattle.picky_key.specs.Records as records
+use Rattle.picky_jwk.specs.Refusals as jwk
+use Rattle.picky_gate.specs.declared.documents.Document.{Document}
+use Rattle.picky_gate.specs.declared.documents.DocumentFault.{DocumentFault}
+use Rattle.picky_gate.specs.declared.documents.DocumentFault.TheVariants as of_document
+use Rattle.picky_gate.specs.declared.documents.Fault.{Fault}
+use Rattle.picky_gate.specs.declared.documents.Fault.TheVariants as fault
+use Rattle.picky_gate.specs.Refusals.{Cause, cause_of}
+
+-- what is wrong with a document
+pub data Flaw : Type 0 where
+  too_long : Flaw
+  not_utf8 : Flaw
+  of_keys : jwk.Fault → Flaw
+  of_records : RecordFault → Flaw
+
+abbrev pub flaw_of : DocumentFault → Option Flaw
+flaw_of of_document.TooLong = Some too_long
+flaw_of of_document.Utf8 = Some not_utf8
+flaw_of (of_document.Jwk error) = option_map of_keys (jwk.fault error)
+flaw_of (of_document.Records error) = option_map of_records (records.fault error)
+flaw_of of_document.OutOfMemory = None
+
+-- why there is no admitted text
+pub data Why : Type 0 where
+  bad : Document → Flaw → Why
+  refused : Cause → Why
+
+abbrev pub why_of : Fault → Option Why
+why_of (fault.Bad document flaw) = option_map (bad document) (flaw_of flaw)
+why_of (fault.Refused refusal) = option_map refused (cause_of refusal)

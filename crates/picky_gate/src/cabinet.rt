@@ -1,0 +1,112 @@
+// Where documents come from.
+ghost use Rattle.std.specs.Prelude.{◌≡◌, ◌≤◌, ℕ, List, Option, Some, None, IfOk, OnOk, OnErr, IsOkUnless};
+ghost use Rattle.std.specs.FinMap as finite;
+ghost use Rattle.picky_gate.specs.Outside.{IsFetched, FetchCause};
+
+use crate::text_map::{look_up, put};
+use picky_contract::Bytes;
+use std::alloc::{AllocError, Global};
+use std::collections::BTreeMap;
+use std::marker::Model;
+
+/// Why a fetch gave nothing.
+#[derive(Clone, Copy, Debug, PartialEq, Eq)]
+pub enum FetchFault {
+    /// What stands under the path can't be read.
+    Failed,
+    /// There was no memory for it.
+    OutOfMemory,
+}
+
+/// A source of documents, each under a path.
+///
+/// Its meaning is the content under each path, where it tells that, and a count of faults that never
+/// falls. A fetch changes no content.
+pub trait Cabinet {
+    /// The bytes under a path; none where the cabinet doesn't tell them.
+    ghost content: { Self → List ℕ → Option (List ℕ) };
+
+    /// How often a fetch has failed.
+    ghost faults: { Self → ℕ };
+
+    /// The bytes under the path: all of them, or the first `limit` + 1 where there are more.
+    ///
+    /// `Failed` comes only where the count of faults rose in this call or stands at its last value;
+    /// every other answer leaves the count as it was.
+    fn fetch(&mut self, alloc: Global, path: &str, limit: usize) -> Result<Vec<u8>, FetchFault>
+        ensures bytes { IfOk result (λ bytes. IsFetched (content self.old path.now) limit bytes.items) }
+        ensures same { (p : List ℕ) → content self.new p ≡ content self.old p }
+        ensures cause { FetchCause (faults self.old) (faults self.new) result };
+}
+
+fn first_bytes(alloc: Global, content: &[u8], limit: usize) -> Result<Vec<u8>, FetchFault>
+    ensures bytes { IfOk result (λ bytes. IsFetched (Some content.now) limit bytes.items) }
+    ensures memory { IsOkUnless result FetchFault.OutOfMemory }
+{
+    let first = if content.len() > limit {
+        &content[..limit + 1]
+    } else {
+        content
+    };
+    match first.to_vec(alloc) {
+        Ok(bytes) => Ok(bytes),
+        Err(_) => Err(FetchFault::OutOfMemory),
+    }
+}
+
+/// A cabinet in memory, which tells its contents. A path that it doesn't hold is a fault.
+#[derive(Drop)]
+pub struct MemoryCabinet {
+    alloc: Global,
+    files: BTreeMap<String, Bytes>,
+    faults: u64,
+}
+
+impl Model for MemoryCabinet {
+    ghost use Rattle.picky_gate.specs.Shelf.{Shelf, shelf_code};
+    ghost use Rattle.picky_gate.specs.TextMap.{by_text};
+
+    ghost Value = { Shelf };
+
+    ghost coded = { shelf_code };
+
+    ghost view = { λ c. record { files = by_text c.files; faults = c.faults } };
+}
+
+impl MemoryCabinet {
+    /// An empty cabinet, without taking memory.
+    pub fn new(alloc: Global) -> MemoryCabinet
+        ensures { result ≡ record { files = finite.empty; faults = 0 } }
+    {
+        MemoryCabinet {
+            alloc,
+            files: BTreeMap::new(alloc),
+            faults: 0,
+        }
+    }
+
+    /// Puts the bytes under the path, in the place of what was there. After an Err all is as before.
+    pub fn put(&mut self, path: &str, bytes: Vec<u8>) -> Result<(), AllocError>
+        ensures ok { OnOk result (self.new ≡ record self.old { files = finite.insert self.old.files path.now bytes.items }) }
+        ensures err { OnErr result (self.new ≡ self.old) }
+    {
+        let path = String::from_str(self.alloc, path)?;
+        put(&mut self.files, path, Bytes::new(bytes))
+    }
+}
+
+impl Cabinet for MemoryCabinet {
+    ghost content = { λ c p. finite.get c.files p };
+
+    ghost faults = { λ c. c.faults };
+
+    fn fetch(&mut self, alloc: Global, path: &str, limit: usize) -> Result<Vec<u8>, FetchFault> {
+        match look_up(&self.files, path) {
+            Some(content) => first_bytes(alloc, content.as_slice(), limit),
+            None => {
+                self.faults = self.faults.saturating_add(1);
+                Err(FetchFault::Failed)
+            }
+        }
+    }
+}

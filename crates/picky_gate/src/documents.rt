@@ -1,0 +1,171 @@
+// The documents of a command, and what the command comes to over them.
+ghost use Rattle.std.specs.Prelude.{◌≡◌};
+ghost use Rattle.picky_contract.specs.Refusals.{Meets};
+ghost use Rattle.picky_gate.specs.Asked.{admit_of};
+ghost use Rattle.picky_gate.specs.Faults.{flaw_of, why_of};
+ghost use Rattle.picky_gate.specs.Documents.{text_table, records_table, keys_table, text_decision, keys_decision, decision};
+ghost use Rattle.picky_gate.specs.Refusals.{admission_of};
+
+use crate::first_ring::first_ring;
+use crate::{AdmitWords, Admitted, Refusal, Ring, admit};
+use picky_contract::Bytes;
+use picky_jwk::JwkError;
+use picky_key::{RecordFault, Recorded};
+use std::alloc::{AllocError, Global};
+use std::str;
+
+/// The greatest length of a document in bytes.
+pub const LIMIT: usize = 1_048_576;
+
+/// A document that a command names.
+#[derive(Clone, Copy, Debug, PartialEq, Eq)]
+pub enum Document {
+    Keys,
+    Records,
+}
+
+/// The bytes of the documents that a command names, each cut after one byte above the limit.
+#[derive(Drop)]
+pub struct Documents {
+    pub keys: Bytes,
+    pub records: Bytes,
+}
+
+/// What is wrong with a document.
+#[derive(Debug, Drop)]
+pub enum DocumentFault {
+    TooLong,
+    Utf8,
+    Jwk(JwkError),
+    Records(RecordFault),
+    OutOfMemory,
+}
+
+impl From<AllocError> for DocumentFault {
+    ghost use Rattle.picky_gate.specs.declared.documents.DocumentFault.TheVariants.{OutOfMemory};
+
+    ghost from_gives = { λ _ fault. fault ≡ OutOfMemory };
+
+    fn from(_error: AllocError) -> DocumentFault {
+        DocumentFault::OutOfMemory
+    }
+}
+
+/// Why there is no admitted text.
+#[derive(Debug, Drop)]
+pub enum Fault {
+    Bad {
+        document: Document,
+        fault: DocumentFault,
+    },
+    Refused(Refusal),
+}
+
+#[tactic(auto, unfolding(crate::specs::Documents::text_table))]
+fn text_of(document: &[u8]) -> Result<&str, DocumentFault>
+    ensures { Meets (λ s. s.now) flaw_of result (text_table document.now) }
+{
+    if document.len() > LIMIT {
+        return Err(DocumentFault::TooLong);
+    }
+    match str::from_utf8(document) {
+        Ok(text) => Ok(text),
+        Err(_) => Err(DocumentFault::Utf8),
+    }
+}
+
+#[tactic(auto, unfolding(crate::specs::Documents::records_table))]
+fn read_records(alloc: Global, document: &[u8]) -> Result<Recorded, DocumentFault>
+    ensures { Meets (λ p. p) flaw_of result (records_table document.now) }
+{
+    match text_of(document) {
+        Ok(text) => match Recorded::read(alloc, text) {
+            Ok(records) => Ok(records),
+            Err(fault) => Err(DocumentFault::Records(fault)),
+        },
+        Err(fault) => Err(fault),
+    }
+}
+
+#[tactic(auto, unfolding(crate::specs::Documents::keys_table))]
+fn read_keys(alloc: Global, document: &[u8]) -> Result<Ring, DocumentFault>
+    ensures { Meets (λ r. r) flaw_of result (keys_table document.now) }
+{
+    match text_of(document) {
+        Ok(text) => match first_ring(alloc, text)? {
+            Some(ring) => Ok(ring),
+            None => Err(DocumentFault::Jwk(JwkError::Unbuilt)),
+        },
+        Err(fault) => Err(fault),
+    }
+}
+
+// The provider of a records document.
+fn provider_in(alloc: Global, document: &Bytes) -> Result<Recorded, DocumentFault>
+    ensures { Meets (λ p. p) flaw_of result (records_table document.now) }
+{
+    read_records(alloc, document.as_slice())
+}
+
+// The ring of a keys document.
+fn ring_in(alloc: Global, document: &Bytes) -> Result<Ring, DocumentFault>
+    ensures { Meets (λ r. r) flaw_of result (keys_table document.now) }
+{
+    read_keys(alloc, document.as_slice())
+}
+
+// What the command comes to over its text.
+fn decide_text(
+    alloc: Global,
+    words: AdmitWords<'_>,
+    provider: &Recorded,
+    ring: &Ring,
+) -> Result<Admitted, Fault>
+    ensures { Meets admission_of why_of result (text_decision (admit_of words.entry) provider.now ring.now) }
+{
+    match admit(alloc, words.text, ring, provider, &words.policy()) {
+        Ok(admitted) => Ok(admitted),
+        Err(refusal) => Err(Fault::Refused(refusal)),
+    }
+}
+
+// What the command comes to from the keys on.
+fn decide_from_keys(
+    alloc: Global,
+    words: AdmitWords<'_>,
+    documents: &Documents,
+    provider: &Recorded,
+) -> Result<Admitted, Fault>
+    ensures { Meets admission_of why_of result (keys_decision (admit_of words.entry) documents.now provider.now) }
+{
+    let ring = match ring_in(alloc, &documents.keys) {
+        Ok(ring) => ring,
+        Err(fault) => {
+            return Err(Fault::Bad {
+                document: Document::Keys,
+                fault,
+            });
+        }
+    };
+    decide_text(alloc, words, provider, &ring)
+}
+
+/// What the command comes to over its documents.
+pub fn decide(
+    alloc: Global,
+    words: AdmitWords<'_>,
+    documents: &Documents,
+) -> Result<Admitted, Fault>
+    ensures { Meets admission_of why_of result (decision (admit_of words.entry) documents.now) }
+{
+    let provider = match provider_in(alloc, &documents.records) {
+        Ok(provider) => provider,
+        Err(fault) => {
+            return Err(Fault::Bad {
+                document: Document::Records,
+                fault,
+            });
+        }
+    };
+    decide_from_keys(alloc, words, documents, &provider)
+}

@@ -1,0 +1,33 @@
+//! The gate: whether an authorization text is admitted, and the program that says so.
+//!
+//! - [`Cabinet`], [`Sink`]: the outside, as traits with a written meaning; [`MemoryCabinet`],
+//!   [`MemorySink`] in memory, [`FileCabinet`], [`StdSink`] over the real files and the real output.
+#![tactic(auto)]
+
+mod admission;
+mod asked;
+mod bearer;
+mod cabinet;
+mod claims;
+mod documents;
+mod files;
+mod first_ring;
+pub mod laws;
+mod lines;
+mod policy;
+mod program;
+mod ring;
+mod sink;
+mod stdio;
+mod text_map;
+mod words;
+
+pub use admission::{Admitted, Refusal, admit};
+use asked::AdmitWords;
+pub use cabinet::{Cabinet, FetchFault, MemoryCabinet};
+pub use files::FileCabinet;
+pub use policy::Policy;
+pub use program::{Status, run};
+pub use ring::{KeyName, KeysFault, Ring, RingEntry};
+pub use sink::{Failed, MemorySink, Sink};
+pub use stdio::StdSink;

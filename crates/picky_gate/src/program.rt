@@ -1,0 +1,173 @@
+// The program over any cabinet and any sink.
+ghost use Rattle.std.specs.Prelude.{◌≡◌, ◌≢◌, ◌⊎◌, ◌≤◌, ◌<◌, ℕ, List, IfOk, length, string_bytes};
+ghost use Rattle.picky_contract.specs.Causes.{Rose};
+ghost use Rattle.picky_gate.specs.Admissible.{Admission};
+ghost use Rattle.picky_gate.specs.Asked.{admit_of};
+ghost use Rattle.picky_gate.specs.Command.{texts_of, Admit, IsCommand};
+ghost use Rattle.picky_gate.specs.Documents.{limit};
+ghost use Rattle.picky_gate.specs.Headline.{Headline};
+ghost use Rattle.picky_gate.specs.Lines.{admitted_text};
+ghost use Rattle.picky_gate.specs.Outside.{IsFetched, Adds};
+ghost use Rattle.picky_gate.specs.Reply.{AreFetched, UnfetchedCause, Delivers, Replies, Said, reply_text, unread};
+
+use crate::documents::{Document, Documents, LIMIT, decide};
+use crate::lines::{admitted_lines, fault_line};
+use crate::sink::write_all;
+use crate::words::read_words;
+use crate::{AdmitWords, Cabinet, FetchFault, Sink};
+use picky_contract::Bytes;
+use std::alloc::{AllocError, Global};
+
+/// The status of the program: 0 admitted, 1 refused, 2 the words are no command, 3 a document can't be
+/// read, 4 a document is bad, 5 want of memory, 6 a write failed.
+#[derive(Clone, Copy, Debug, PartialEq, Eq)]
+pub struct Status {
+    pub code: u8,
+}
+
+// Why there are no documents.
+enum Unfetched {
+    Failed(Document),
+    OutOfMemory,
+}
+
+fn fetch_one<C: Cabinet>(
+    alloc: Global,
+    cabinet: &mut C,
+    path: &str,
+    document: Document,
+) -> Result<Bytes, Unfetched>
+    ensures bytes { IfOk result (λ bytes. IsFetched (C.content cabinet.old path.now) limit bytes) }
+    ensures same { (p : List ℕ) → C.content cabinet.new p ≡ C.content cabinet.old p }
+    ensures cause { UnfetchedCause (C.faults cabinet.old) (C.faults cabinet.new) result }
+{
+    match cabinet.fetch(alloc, path, LIMIT) {
+        Ok(bytes) => Ok(Bytes::new(bytes)),
+        Err(FetchFault::Failed) => Err(Unfetched::Failed(document)),
+        Err(FetchFault::OutOfMemory) => Err(Unfetched::OutOfMemory),
+    }
+}
+
+// Fetches the documents in their order, up to the first that fails.
+fn fetch_documents<C: Cabinet>(
+    alloc: Global,
+    cabinet: &mut C,
+    words: AdmitWords<'_>,
+) -> Result<Documents, Unfetched>
+    ensures bytes { IfOk result (λ docs. AreFetched (C.content cabinet.old) (admit_of words.entry) docs) }
+    ensures cause { UnfetchedCause (C.faults cabinet.old) (C.faults cabinet.new) result }
+{
+    let keys = match fetch_one(alloc, cabinet, words.keys, Document::Keys) {
+        Ok(keys) => keys,
+        Err(unfetched) => return Err(unfetched),
+    };
+    let records = match fetch_one(alloc, cabinet, words.records, Document::Records) {
+        Ok(records) => records,
+        Err(unfetched) => return Err(unfetched),
+    };
+    Ok(Documents { keys, records })
+}
+
+// Writes the text, and says the status.
+fn finish<K: Sink>(out: &mut K, text: &[u8], code: u8) -> Status
+    requires { code ≢ 6 }
+    ensures delivers { Delivers text.now code (K.room out.old) (K.written out.old) (K.written out.new) result.code }
+    ensures failed { K.faults out.old < K.faults out.new → result.code ≡ 6 }
+    ensures later { K.faults out.old ≤ K.faults out.new }
+    ensures cause { result.code ≡ 6 → Rose (K.faults out.old) (K.faults out.new) }
+    ensures other { result.code ≢ 6 → result.code ≡ code }
+{
+    match write_all(out, text) {
+        Ok(()) => Status { code },
+        Err(_) => Status { code: 6 },
+    }
+}
+
+fn unread_line(document: Document) -> &'static [u8]
+    ensures { result.now ≡ reply_text (unread document) }
+{
+    match document {
+        Document::Keys => b"cannot read keys\n",
+        Document::Records => b"cannot read records\n",
+    }
+}
+
+// The status and the text of what the command comes to.
+fn answer(
+    alloc: Global,
+    words: AdmitWords<'_>,
+    documents: &Documents,
+) -> Result<(u8, String), AllocError>
+    ensures { IfOk result (λ r. Said (admit_of words.entry) documents.now r.0 (string_bytes r.1)) }
+{
+    match decide(alloc, words, documents) {
+        Ok(admitted) => {
+            let text = admitted_lines(alloc, &admitted)?;
+            Ok((0, text))
+        }
+        Err(fault) => fault_line(alloc, &fault),
+    }
+}
+
+// What the program does.
+fn perform<C: Cabinet, K: Sink>(
+    alloc: Global,
+    words: &[String],
+    cabinet: &mut C,
+    out: &mut K,
+) -> Status
+    ensures replies { Replies (texts_of words.now) (C.content cabinet.old) (Rose (C.faults cabinet.old) (C.faults cabinet.new)) (K.room out.old) result.code (K.written out.old) (K.written out.new) }
+    ensures write_failed { K.faults out.old < K.faults out.new → result.code ≡ 6 }
+    ensures fetch_failed { result.code ≢ 6 → C.faults cabinet.old < C.faults cabinet.new → result.code ≡ 3 }
+    ensures six { result.code ≡ 6 → Rose (K.faults out.old) (K.faults out.new) }
+    ensures three { result.code ≡ 3 → Rose (C.faults cabinet.old) (C.faults cabinet.new) }
+    ensures later { (C.faults cabinet.old ≤ C.faults cabinet.new) × (K.faults out.old ≤ K.faults out.new) }
+{
+    let Some(command) = read_words(words) else {
+        return finish(out, b"usage\n", 2);
+    };
+    let documents = match fetch_documents(alloc, cabinet, command) {
+        Ok(documents) => documents,
+        Err(Unfetched::Failed(document)) => return finish(out, unread_line(document), 3),
+        Err(Unfetched::OutOfMemory) => return Status { code: 5 },
+    };
+    match answer(alloc, command, &documents) {
+        Ok((code, text)) => finish(out, text.as_bytes(), code),
+        Err(_) => Status { code: 5 },
+    }
+}
+
+/// The program: what the words ask, over the cabinet, into the sink.
+///
+/// The words are a command, the documents are fetched (keys, then records) and checked (records, then
+/// keys), the text is judged, and the whole output is built before its first byte is written.
+pub fn run<C: Cabinet, K: Sink>(
+    alloc: Global,
+    words: &[String],
+    cabinet: &mut C,
+    out: &mut K,
+) -> Status
+    // What is written is one reply of these words over these contents, whole unless a write failed.
+    ensures replies { Replies (texts_of words.now) (C.content cabinet.old) (Rose (C.faults cabinet.old) (C.faults cabinet.new)) (K.room out.old) result.code (K.written out.old) (K.written out.new) }
+
+    // Where a write failed the status is 6, else where a fetch failed it is 3; and they have no other cause.
+    ensures write_failed { K.faults out.old < K.faults out.new → result.code ≡ 6 }
+    ensures fetch_failed { result.code ≢ 6 → C.faults cabinet.old < C.faults cabinet.new → result.code ≡ 3 }
+    ensures six { result.code ≡ 6 → Rose (K.faults out.old) (K.faults out.new) }
+    ensures three { result.code ≡ 3 → Rose (C.faults cabinet.old) (C.faults cabinet.new) }
+    ensures later { (C.faults cabinet.old ≤ C.faults cabinet.new) × (K.faults out.old ≤ K.faults out.new) }
+
+    // Words that are no command: 2, or 6 where a write failed; and 2 comes only of such words.
+    ensures no_command { ((c : Admit) → ¬ (IsCommand (texts_of words.now) c)) → (result.code ≡ 2) ⊎ (result.code ≡ 6) }
+    ensures two { result.code ≡ 2 → (c : Admit) → ¬ (IsCommand (texts_of words.now) c) }
+
+    // Status 0 comes only where nothing failed, with the two lines of what was admitted written whole.
+    ensures zero { result.code ≡ 0 → (C.faults cabinet.new ≡ C.faults cabinet.old) × (K.faults out.new ≡ K.faults out.old)
+        × ((a : Admission) × Adds (K.written out.old) (admitted_text a) (K.written out.new)) }
+
+    // Over documents that are told, with no failure: the status is 0, with its two lines, exactly where the text
+    // is admissible, otherwise the code is that of the first condition that fails. Want of memory is free.
+    ensures headline { Headline (texts_of words.now) (C.content cabinet.old) (Rose (C.faults cabinet.old) (C.faults cabinet.new)) (Rose (K.faults out.old) (K.faults out.new)) (K.room out.old) result.code (K.written out.old) (K.written out.new) }
+{
+    perform(alloc, words, cabinet, out)
+}

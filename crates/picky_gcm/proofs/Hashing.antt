@@ -1,0 +1,101 @@
+-- The blocks of padded bytes, and their hash one block after another.
+use Rattle.std.proofs.Common.{◌≡◌, ℕ, ◌+◌, ◌-◌, ◌*◌, ◌/◌, ◌%◌, ◌<◌, ◌≤◌, Bool, List, [], ◌∷◌, ◌++◌, length, map, take, drop, replicate, slice_range, min, refl, sym, ap, ◌∙◌, arith, bit_xor, inl, inr}
+use Rattle.std.specs.List.{range_with_len}
+use Rattle.std.specs.Int.{div_ceil}
+use Rattle.std.proofs.lemmas.Bool.{cases_lt}
+use Rattle.std.proofs.lemmas.List.{append-nil, drop-append-le, drop-replicate, length-append, length-drop, length-replicate, take-append-le, take_all}
+use Rattle.std.proofs.lemmas.List.FromFn.{map-range_with_len_more}
+use Rattle.picky_gcm.specs.Hash.{Ghash, Ghash_from, blocks, hash_of, lengths, padded}
+use Rattle.picky_gcm.specs.Polynomial.{Mul, block_of, bytes_of, coefficients, plus, zeros}
+use Rattle.picky_gcm.proofs.Numbers.{coefficients-xor, zero-coefficients}
+
+-- ---- padding
+front-padded : (d : List ℕ) (z n : ℕ) → n ≡ min (length d) 16 → (length d < 16 → z ≡ 16 - length d)
+    → take n d ++ replicate (16 - n) 0 ≡ take 16 (d ++ replicate z 0)
+front-padded d z n e short = elim (cases_lt (length d) 16) [
+  | inl lt ↦
+      let en : n ≡ length d = omega arith in
+      let ez : 16 - n ≡ z = omega (arith, short lt) in
+      let all : length (d ++ replicate z 0) ≤ 16 = omega (arith, short lt, length-append d (replicate z 0), length-replicate {A = ℕ} z 0) in
+      (λ i. take_all n d (omega arith) i ++ replicate (ez i) 0) ∙ sym (take_all 16 (d ++ replicate z 0) all)
+  | inr ge ↦
+      let en : n ≡ 16 = omega arith in
+      let none : 16 - n ≡ 0 = omega arith in
+      (λ i. take (en i) d ++ replicate (none i) 0) ∙ append-nil (take 16 d) ∙ sym (take-append-le 16 d (replicate z 0) ge)
+]
+
+pub padded-block : (bytes : List ℕ) (k n : ℕ) → 16 * k < length bytes → n ≡ min (length bytes - 16 * k) 16
+    → slice_range bytes (16 * k) (16 * k + n) ++ drop n (replicate 16 0) ≡ slice_range (padded bytes) (16 * k) (16 * k + 16)
+padded-block bytes k n h e =
+    let z : ℕ = (16 - length bytes % 16) % 16 in
+    let size : length (drop (16 * k) bytes) ≡ length bytes - 16 * k = length-drop (16 * k) bytes in
+    let count : 16 * k + n - 16 * k ≡ n = omega arith in
+    let whole : 16 * k + 16 - 16 * k ≡ 16 = omega arith in
+    (λ i. take (count i) (drop (16 * k) bytes) ++ drop-replicate n 16 0 i)
+    ∙ front-padded (drop (16 * k) bytes) z n (omega (arith, size)) (λ short. omega (arith, size, short))
+    ∙ (λ i. take (sym whole i) (sym (drop-append-le (16 * k) bytes (replicate z 0) (omega arith)) i))
+
+pub count-padded : (bytes : List ℕ) → length (padded bytes) / 16 ≡ div_ceil (length bytes) 16
+count-padded bytes =
+    let z : ℕ = (16 - length bytes % 16) % 16 in
+    omega (arith, length-append bytes (replicate z 0), length-replicate {A = ℕ} z 0)
+
+-- ---- the hash, block by block
+abbrev pub block_at : List ℕ → ℕ → List Bool
+block_at bytes k = block_of (slice_range (padded bytes) (16 * k) (16 * k + 16))
+
+Ghash_from-append : (h y : List Bool) (xs ys : List (List Bool)) → Ghash_from h y (xs ++ ys) ≡ Ghash_from h (Ghash_from h y xs) ys
+unfolding Ghash_from
+Ghash_from-append h y [] ys = refl
+Ghash_from-append h y (x ∷ xs) ys = Ghash_from-append h (Mul (plus y x) h) xs ys
+
+Ghash_from-one : (h y x : List Bool) → Ghash_from h y (x ∷ []) ≡ Mul (plus y x) h
+unfolding Ghash_from
+Ghash_from-one h y x = refl
+
+pub Ghash_from-none : (h y : List Bool) → y ≡ Ghash_from h y []
+unfolding Ghash_from
+Ghash_from-none h y = refl
+
+pub Ghash-none : (h : List Bool) → Ghash h [] ≡ zeros 128
+unfolding Ghash_from
+Ghash-none h = refl
+
+pub Ghash-more : (h : List Bool) (xs : List (List Bool)) (x : List Bool) → Ghash h (xs ++ x ∷ []) ≡ Mul (plus (Ghash h xs) x) h
+Ghash-more h xs x = Ghash_from-append h (zeros 128) xs (x ∷ []) ∙ Ghash_from-one h (Ghash h xs) x
+
+-- the hash y and the block x added and multiplied by the key
+pub hashed-more : (h y : List Bool) (bytes : List ℕ) (k z x w : ℕ) → coefficients 128 z ≡ Ghash_from h y (map (block_at bytes) (range_with_len 0 k))
+    → coefficients 128 x ≡ block_at bytes k → coefficients 128 w ≡ Mul (coefficients 128 (bit_xor z x)) h
+    → coefficients 128 w ≡ Ghash_from h y (map (block_at bytes) (range_with_len 0 (k + 1)))
+hashed-more h y bytes k z x w ez ex ew =
+    ew
+    ∙ ap (λ c. Mul c h) (coefficients-xor 128 z x ∙ (λ i. plus (ez i) (ex i)))
+    ∙ sym (Ghash_from-one h (Ghash_from h y (map (block_at bytes) (range_with_len 0 k))) (block_at bytes k))
+    ∙ sym (Ghash_from-append h y (map (block_at bytes) (range_with_len 0 k)) (block_at bytes k ∷ []))
+    ∙ ap (Ghash_from h y) (sym (map-range_with_len_more (block_at bytes) 0 k k (omega arith)))
+
+pub hashed-all : (h y : List Bool) (bytes : List ℕ) (k z : ℕ) → k ≡ div_ceil (length bytes) 16
+    → coefficients 128 z ≡ Ghash_from h y (map (block_at bytes) (range_with_len 0 k)) → coefficients 128 z ≡ Ghash_from h y (blocks (padded bytes))
+hashed-all h y bytes k z ek ez =
+    ez ∙ ap (λ n. Ghash_from h y (map (block_at bytes) (range_with_len 0 n))) (ek ∙ sym (count-padded bytes))
+
+-- the whole hash: of additional data a, on to the text b, and on to the lengths
+pub hash-is : (key aad text bytes : List ℕ) (k a b l w : ℕ) → coefficients 128 k ≡ block_of key
+    → coefficients 128 a ≡ Ghash_from (coefficients 128 k) (coefficients 128 0) (blocks (padded aad))
+    → coefficients 128 b ≡ Ghash_from (coefficients 128 k) (coefficients 128 a) (blocks (padded text))
+    → coefficients 128 l ≡ block_of (lengths aad text)
+    → coefficients 128 w ≡ Mul (coefficients 128 (bit_xor b l)) (coefficients 128 k)
+    → bytes ≡ bytes_of (coefficients 128 w) → bytes ≡ hash_of key aad text
+unfolding hash_of
+hash-is key aad text bytes k a b l w ek ea eb el ew e =
+    let h : List Bool = block_of key in
+    let ends : List (List Bool) = block_of (lengths aad text) ∷ [] in
+    let first : coefficients 128 a ≡ Ghash h (blocks (padded aad)) = ea ∙ (λ i. Ghash_from (ek i) (zero-coefficients i) (blocks (padded aad))) in
+    let second : coefficients 128 b ≡ Ghash_from h (Ghash h (blocks (padded aad))) (blocks (padded text)) = eb ∙ (λ i. Ghash_from (ek i) (first i) (blocks (padded text))) in
+    let last : coefficients 128 w ≡ Mul (plus (Ghash_from h (Ghash h (blocks (padded aad))) (blocks (padded text))) (block_of (lengths aad text))) h =
+    ew ∙ (λ i. Mul (coefficients-xor 128 b l i) (ek i)) ∙ (λ i. Mul (plus (second i) (el i)) h) in
+    e ∙ ap bytes_of (last
+    ∙ sym (Ghash_from-one h (Ghash_from h (Ghash h (blocks (padded aad))) (blocks (padded text))) (block_of (lengths aad text)))
+    ∙ sym (Ghash_from-append h (Ghash h (blocks (padded aad))) (blocks (padded text)) ends)
+    ∙ sym (Ghash_from-append h (zeros 128) (blocks (padded aad)) (blocks (padded text) ++ ends)))

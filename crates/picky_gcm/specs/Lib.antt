@@ -1,0 +1,4 @@
+pub mod Polynomial
+pub mod Hash
+pub mod Counter
+pub mod Gcm

@@ -1,0 +1,20 @@
+//! AES-GCM (SP 800-38D) with nonces of 12 bytes and tags of 16.
+//!
+//! [`gcm_seal`] encrypts in place and gives the tag, [`gcm_open`] decrypts in place where the tag is right, and
+//! [`HashTable`] is the hash function GHASH. The bodies are plain: products are formed bit by bit, and counter blocks
+//! one at a time. Every result is proved to be the standard's; nothing is said of time that depends on secrets. No call
+//! takes memory.
+#![tactic(auto)]
+
+#[cfg(test)]
+mod cases;
+mod counter;
+mod gcm;
+mod hash_table;
+pub mod laws;
+mod polynomial;
+#[cfg(test)]
+mod tests;
+
+pub use gcm::{gcm_open, gcm_seal};
+pub use hash_table::HashTable;

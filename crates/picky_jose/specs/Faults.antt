@@ -1,0 +1,54 @@
+-- What the errors of tokens say, want of memory aside (own).
+use Rattle.std.specs.Prelude.{ℕ, ℤ, List, Option, Some, None, string_bytes}
+use Rattle.picky_key.specs.declared.error.SignatureError.{SignatureError}
+use Rattle.picky_key.specs.declared.error.SignatureError.TheVariants as of_signature
+use Rattle.picky_jose.specs.declared.error.JwsError.{JwsError}
+use Rattle.picky_jose.specs.declared.error.JwsError.TheVariants as of_jws
+use Rattle.picky_jose.specs.declared.error.JwtError.{JwtError}
+use Rattle.picky_jose.specs.declared.error.JwtError.TheVariants as of_jwt
+use Rattle.picky_jose.specs.declared.date.JwtDate.{JwtDate}
+
+-- why a signature isn't accepted; sizes in bytes, expected and got
+pub data SignatureFault : Type 0 where
+  unsupported : SignatureFault
+  bad : SignatureFault
+  ec_size : ℕ → ℕ → SignatureFault
+
+abbrev pub signature_fault : SignatureError → SignatureFault
+signature_fault of_signature.UnsupportedAlgorithm = unsupported
+signature_fault of_signature.BadSignature = bad
+signature_fault (of_signature.Ec expected got) = ec_size expected got
+
+-- why a signed token isn't accepted
+pub data JwsFault : Type 0 where
+  json : JwsFault
+  signature : SignatureFault → JwsFault
+  invalid_encoding : List ℕ → JwsFault
+  not_base64 : JwsFault
+  float : JwsFault
+
+abbrev pub jws_fault : JwsError → Option JwsFault
+jws_fault of_jws.Json = Some json
+jws_fault (of_jws.Signature source) = Some (signature (signature_fault source))
+jws_fault (of_jws.InvalidEncoding input) = Some (invalid_encoding (string_bytes input))
+jws_fault of_jws.Base64Decoding = Some not_base64
+jws_fault of_jws.Float = Some float
+jws_fault of_jws.OutOfMemory = None
+
+-- why claims aren't accepted; `jws` has no fault only for an inner want of memory, which is no refusal of any table
+pub data JwtFault : Type 0 where
+  jws : Option JwsFault → JwtFault
+  no_json : JwtFault
+  no_integer : List ℕ → JwtFault
+  not_yet_valid : ℤ → JwtDate → JwtFault
+  expired : ℤ → JwtDate → JwtFault
+  has_float : JwtFault
+
+abbrev pub jwt_fault : JwtError → Option JwtFault
+jwt_fault (of_jwt.Jws source) = Some (jws (jws_fault source))
+jwt_fault of_jwt.Json = Some no_json
+jwt_fault (of_jwt.InvalidRegisteredClaimType claim) = Some (no_integer claim.now)
+jwt_fault (of_jwt.NotYetValid not_before now) = Some (not_yet_valid not_before now)
+jwt_fault (of_jwt.Expired not_after now) = Some (expired not_after now)
+jwt_fault of_jwt.Float = Some has_float
+jwt_fault of_jwt.OutOfMemory = None

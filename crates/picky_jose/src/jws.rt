@@ -1,0 +1,158 @@
+// Signed tokens (RFC 7515).
+ghost use Rattle.std.specs.Prelude.{◌≡◌, IfOk, IfErr, None, OnOk};
+ghost use Rattle.picky_contract.specs.Refusals.{Meets, OkOrMemory};
+ghost use Rattle.picky_jose.specs.Faults.{jws_fault};
+
+use crate::cut::parts_of;
+use crate::error::JwsError;
+use crate::header::{JwsHeader, header_from};
+use crate::signature::check_signature;
+use picky_base64::Form;
+use picky_key::{KeyProvider, PublicKey};
+use std::alloc::{AllocError, Global};
+use std::borrow::CowStr;
+
+/// A signed token whose signature holds: its header and its payload.
+#[derive(Debug, Drop)]
+pub struct Jws {
+    pub header: JwsHeader,
+    pub payload: Vec<u8>,
+}
+
+impl Jws {
+    ghost use Rattle.picky_jose.specs.Views.{jws_content};
+
+    /// A copy, in memory of its own.
+    pub fn clone(&self, alloc: Global) -> Result<Jws, AllocError>
+        ensures { IfOk result (λ copy. jws_content copy ≡ jws_content self.now) }
+    {
+        Ok(Jws {
+            header: self.header.clone(alloc)?,
+            payload: self.payload.to_vec(alloc)?,
+        })
+    }
+}
+
+/// A signed token that was read and not verified: its text, its header and its signature.
+#[derive(Debug, Drop)]
+pub struct RawJws<'repr> {
+    pub compact_repr: CowStr<'repr, Global>,
+    pub header: JwsHeader,
+    pub signature: Vec<u8>,
+    payload: Vec<u8>,
+}
+
+impl<'repr> RawJws<'repr> {
+    ghost use Rattle.std.specs.Cow.{cow_str_bytes};
+    ghost use Rattle.picky_jose.specs.Refusals.{Reading, reading_of, TokenReading, token_table};
+    ghost use Rattle.picky_jose.specs.Views.{raw_content, jws_content, text_of};
+    ghost use Rattle.picky_jose.specs.Signatures.{signed_table};
+
+    /// Reads a token `h.p.s` in compact serialization (RFC 7515, section 7.1): h is the text before
+    /// the first dot, s the text after the last; neither is empty, all three are strict unpadded
+    /// base64url, and h spells a header of the first form: a JSON object with exactly the members
+    /// `alg`, which is `EdDSA`, and `kid`, a text.
+    ///
+    /// In order: `InvalidEncoding` where the text isn't cut so; `Base64Decoding` of h; `Json` where h
+    /// spells no JSON; `Float` where a number of it is held as a float; `Json` where it is no such
+    /// header; `Base64Decoding` of s, then of p.
+    pub fn decode(alloc: Global, compact_repr: CowStr<'repr, Global>) -> Result<Self, JwsError>
+        ensures found { IfOk result (λ x. TokenReading (reading_of x) (cow_str_bytes compact_repr.entry)) }
+        ensures every { (x : Reading) → TokenReading x (cow_str_bytes compact_repr.entry) → OkOrMemory reading_of jws_fault result x }
+        ensures first { Meets reading_of jws_fault result (token_table (cow_str_bytes compact_repr.entry)) }
+        ensures text { IfOk result (λ x. text_of x ≡ cow_str_bytes compact_repr.entry) }
+    {
+        RawJws::read(alloc, compact_repr)
+    }
+
+    #[tactic(auto, unfolding(crate::specs::Refusals::token_table))]
+    fn read(alloc: Global, compact_repr: CowStr<'repr, Global>) -> Result<Self, JwsError>
+        ensures reads { Meets reading_of jws_fault result (token_table (cow_str_bytes compact_repr.entry)) }
+        ensures text { IfOk result (λ x. text_of x ≡ cow_str_bytes compact_repr.entry) }
+    {
+        let Some((header, payload, signature)) = parts_of(compact_repr.as_str()) else {
+            let input = String::from_str(alloc, compact_repr.as_str())?;
+            return Err(JwsError::InvalidEncoding { input });
+        };
+        let header = header_from(alloc, header)?;
+        let Some(signature) = picky_base64::decode(alloc, Form::Url, signature)? else {
+            return Err(JwsError::Base64Decoding);
+        };
+        let Some(payload) = picky_base64::decode(alloc, Form::Url, payload)? else {
+            return Err(JwsError::Base64Decoding);
+        };
+        Ok(RawJws {
+            compact_repr,
+            header,
+            signature,
+            payload,
+        })
+    }
+
+    /// A copy, in memory of its own.
+    pub fn clone(&self, alloc: Global) -> Result<RawJws<'static>, AllocError>
+        ensures text { IfOk result (λ copy. text_of copy ≡ text_of self.now) }
+        ensures reading { IfOk result (λ copy. reading_of copy ≡ reading_of self.now) }
+    {
+        let text = String::from_str(alloc, self.compact_repr.as_str())?;
+        Ok(RawJws {
+            compact_repr: CowStr::Owned(text),
+            header: self.header.clone(alloc)?,
+            signature: self.signature.to_vec(alloc)?,
+            payload: self.payload.to_vec(alloc)?,
+        })
+    }
+
+    /// The payload, which nobody vouches for yet.
+    pub fn peek_payload(&self) -> &[u8]
+        ensures { result.now ≡ (raw_content self.now).payload }
+    {
+        &self.payload
+    }
+
+    /// The token with its signature verified: the provider's relation holds of the key, the
+    /// algorithm of `header.alg`, the bytes of the text before its last dot as they stand, and what
+    /// the text after it spells. The public field `signature` isn't looked at.
+    ///
+    /// In order: `InvalidEncoding` where the text has no dot or ends with one; `Base64Decoding` where
+    /// the text after its last dot isn't strict; `Signature` with `UnsupportedAlgorithm` for a name
+    /// without a signature algorithm, with `Ec` where an ECDSA signature isn't of its name's size,
+    /// with `BadSignature` where the relation doesn't hold.
+    pub fn verify<P: KeyProvider>(
+        self,
+        alloc: Global,
+        provider: &P,
+        public_key: &PublicKey,
+    ) -> Result<Jws, JwsError>
+        ensures first { Meets (λ x. tt) jws_fault result (signed_table (P.signs provider.now) public_key.now self.entry.header.alg (text_of self.entry)) }
+        ensures content { IfOk result (λ x. jws_content x ≡ raw_content self.entry) }
+    {
+        check_signature(
+            alloc,
+            provider,
+            public_key,
+            self.header.alg,
+            self.compact_repr.as_str(),
+        )?;
+        Ok(Jws {
+            header: self.header,
+            payload: self.payload,
+        })
+    }
+}
+
+// A token with any text and any name, for the tests of `verify`.
+#[cfg(test)]
+pub(crate) fn raw(
+    alloc: Global,
+    text: &str,
+    header: JwsHeader,
+) -> Result<RawJws<'static>, AllocError> {
+    let text = String::from_str(alloc, text)?;
+    Ok(RawJws {
+        compact_repr: CowStr::Owned(text),
+        header,
+        signature: Vec::new(alloc),
+        payload: Vec::new(alloc),
+    })
+}

@@ -1,0 +1,141 @@
+// Tokens with claims (RFC 7519).
+ghost use Rattle.std.specs.Prelude.{◌≡◌, IfOk, codes};
+ghost use Rattle.serde_json.specs.View.{view};
+ghost use Rattle.picky_contract.specs.Refusals.{Meets};
+ghost use Rattle.picky_json.specs.Tree.{member};
+ghost use Rattle.picky_jose.specs.Claims.{claims_table, dates_table, nbf_table, exp_table};
+ghost use Rattle.picky_jose.specs.Faults.{jwt_fault};
+
+use crate::date::{JwtDate, JwtValidator};
+use crate::error::JwtError;
+use crate::header::JwsHeader;
+use crate::jws::Jws;
+use picky_json::{has_float, parse};
+use serde_json::Value;
+use std::alloc::Global;
+
+/// A token: its header, and its claims or what they will be read from.
+#[derive(Debug, Drop)]
+pub struct Jwt<H, State> {
+    pub header: H,
+    pub state: State,
+}
+
+/// The claims of a token whose dates hold.
+#[derive(Debug, Drop)]
+pub struct CheckedState<C> {
+    pub claims: C,
+}
+
+/// The payload of a token whose claims aren't checked.
+#[derive(Debug, Drop)]
+pub struct UncheckedState {
+    payload: Vec<u8>,
+}
+
+/// A signed token whose claims aren't checked.
+pub type JwtSig = Jwt<JwsHeader, UncheckedState>;
+
+/// A signed token whose dates hold.
+pub type CheckedJwtSig<C> = Jwt<JwsHeader, CheckedState<C>>;
+
+impl From<Jws> for JwtSig {
+    ghost use Rattle.picky_jose.specs.Views.{jws_content, unchecked_content};
+
+    ghost from_gives = { λ jws jwt. unchecked_content jwt ≡ jws_content jws };
+
+    fn from(jws: Jws) -> JwtSig {
+        Jwt {
+            header: jws.header,
+            state: UncheckedState {
+                payload: jws.payload,
+            },
+        }
+    }
+}
+
+impl JwtSig {
+    ghost use Rattle.picky_jose.specs.Views.{header_view, unchecked_content, claims_of};
+
+    /// The token with its claims read and their dates checked: an absent `nbf` or `exp` passes; one
+    /// that is there is an integer in `i64`, and the validator's date is at or after `nbf` less the
+    /// leeway, and before `exp` plus the leeway. Claims that aren't an object have neither.
+    ///
+    /// In order: `Json` where the payload isn't JSON; `Float` where a number of it is held as a float;
+    /// of `nbf` `InvalidRegisteredClaimType`, then `NotYetValid`; of `exp`
+    /// `InvalidRegisteredClaimType`, then `Expired`.
+    pub fn validate(
+        self,
+        alloc: Global,
+        validator: &JwtValidator,
+    ) -> Result<CheckedJwtSig<Value>, JwtError>
+        ensures first { Meets claims_of jwt_fault result (claims_table validator.now (unchecked_content self).payload) }
+        ensures header { IfOk result (λ x. header_view x.header ≡ (unchecked_content self).header) }
+    {
+        let claims = checked_claims(alloc, validator.date(), &self.state.payload)?;
+        Ok(Jwt {
+            header: self.header,
+            state: CheckedState { claims },
+        })
+    }
+}
+
+// The claims of a payload, where their dates hold.
+#[tactic(auto, unfolding(crate::specs::Claims::claims_table))]
+fn checked_claims(alloc: Global, date: JwtDate, payload: &[u8]) -> Result<Value, JwtError>
+    ensures { Meets view jwt_fault result (claims_table date payload.now) }
+{
+    let Some(claims) = parse(alloc, payload)? else {
+        return Err(JwtError::Json);
+    };
+    if has_float(&claims) {
+        return Err(JwtError::Float);
+    }
+    check_dates(date, &claims)?;
+    Ok(claims)
+}
+
+// Checks `nbf`, then `exp`.
+#[tactic(auto, unfolding(crate::specs::Claims::dates_table))]
+fn check_dates(date: JwtDate, claims: &Value) -> Result<(), JwtError>
+    ensures { Meets (λ u. u) jwt_fault result (dates_table date (view claims.now)) }
+{
+    check_nbf(date, claims)?;
+    check_exp(date, claims)
+}
+
+fn check_nbf(date: JwtDate, claims: &Value) -> Result<(), JwtError>
+    ensures { Meets (λ u. u) jwt_fault result (nbf_table date (member (codes "nbf") (view claims.now))) }
+{
+    let Some(nbf) = claims.get("nbf") else {
+        return Ok(());
+    };
+    let Some(nbf) = nbf.as_i64() else {
+        return Err(JwtError::InvalidRegisteredClaimType { claim: "nbf" });
+    };
+    if !date.is_after(nbf) {
+        return Err(JwtError::NotYetValid {
+            not_before: nbf,
+            now: date,
+        });
+    }
+    Ok(())
+}
+
+fn check_exp(date: JwtDate, claims: &Value) -> Result<(), JwtError>
+    ensures { Meets (λ u. u) jwt_fault result (exp_table date (member (codes "exp") (view claims.now))) }
+{
+    let Some(exp) = claims.get("exp") else {
+        return Ok(());
+    };
+    let Some(exp) = exp.as_i64() else {
+        return Err(JwtError::InvalidRegisteredClaimType { claim: "exp" });
+    };
+    if !date.is_before_strict(exp) {
+        return Err(JwtError::Expired {
+            not_after: exp,
+            now: date,
+        });
+    }
+    Ok(())
+}

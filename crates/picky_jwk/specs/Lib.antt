@@ -1,0 +1,4 @@
+pub mod Names
+pub mod Jwk
+pub mod Keys
+pub mod Refusals

@@ -1,0 +1,66 @@
+-- Sums of iterated HMACs, in the front of arrays.
+use Rattle.std.proofs.Common.{◌≡◌, ℕ, zero, suc, ◌+◌, ◌<◌, List, [], ◌∷◌, ◌++◌, length, take, drop, get_or, set, replicate, refl, sym, ap, ◌∙◌, arith, add-one, bit_xor}
+use Rattle.std.specs.Int.{to_be_bytes, w32}
+use Rattle.std.specs.Int.Bits.{xor_zero_l}
+use Rattle.std.proofs.lemmas.List.{append-nil, length-take-le}
+use Rattle.picky_kdf.specs.Hash.{digest_size}
+use Rattle.picky_kdf.specs.Hmac.{hmac}
+use Rattle.picky_kdf.specs.Pbkdf2.{added, iterated, key_sum}
+use Rattle.picky_kdf.specs.declared.hash.Pkcs12HashAlgorithm.{Pkcs12HashAlgorithm}
+use Rattle.picky_kdf.proofs.Sizes.{digest_size-le}
+
+added-step : (xs ys : List ℕ) (i : ℕ) → i < length xs → i < length ys
+    → set (added (take i xs) (take i ys) ++ drop i xs) i (bit_xor (get_or (added (take i xs) (take i ys) ++ drop i xs) i 0) (get_or ys i 0))
+    ≡ added (take (suc i) xs) (take (suc i) ys) ++ drop (suc i) xs
+added-step [] ys i in_xs in_ys = absurd (omega arith)
+added-step (x ∷ xs) [] i in_xs in_ys = absurd (omega arith)
+added-step (x ∷ xs) (y ∷ ys) zero in_xs in_ys = refl
+added-step (x ∷ xs) (y ∷ ys) (suc i) in_xs in_ys = ap (λ t. bit_xor x y ∷ t) (added-step xs ys i (omega arith) (omega arith))
+
+-- a loop that adds ys to xs in place
+pub added_more : (xs ys zs : List ℕ) (i : ℕ) → i < length xs → i < length ys → zs ≡ added (take i xs) (take i ys) ++ drop i xs
+    → set zs i (bit_xor (get_or zs i 0) (get_or ys i 0)) ≡ added (take (i + 1) xs) (take (i + 1) ys) ++ drop (i + 1) xs
+added_more xs ys zs i in_xs in_ys e = rw (e, add-one) (added-step xs ys i in_xs in_ys)
+
+take-added : (n : ℕ) (xs ys : List ℕ) → take n (added xs ys) ≡ added (take n xs) (take n ys)
+take-added zero xs ys = refl
+take-added (suc n) [] ys = refl
+take-added (suc n) (x ∷ xs) [] = refl
+take-added (suc n) (x ∷ xs) (y ∷ ys) = ap (λ t. bit_xor x y ∷ t) (take-added n xs ys)
+
+added-zeros : (n : ℕ) (xs : List ℕ) → length xs ≡ n → added (replicate n 0) xs ≡ xs
+added-zeros zero [] e = refl
+added-zeros zero (x ∷ xs) e = absurd (omega arith)
+added-zeros (suc n) [] e = absurd (omega arith)
+added-zeros (suc n) (x ∷ xs) e = (λ i. xor_zero_l x i ∷ added-zeros n xs (omega arith) i)
+
+-- U_1
+pub first-iterated : (hash : Pkcs12HashAlgorithm) (password salt : List ℕ) (number : ℕ) (bytes out : List ℕ) → bytes ≡ to_be_bytes w32 number → take (digest_size hash) out ≡ hmac hash password (salt ++ bytes)
+    → take (digest_size hash) out ≡ iterated hash password salt number 1
+unfolding iterated
+first-iterated hash password salt number bytes out eb e = e ∙ ap (λ t. hmac hash password (salt ++ t)) eb
+
+-- the sum of U_1 alone
+pub first-sum : (hash : Pkcs12HashAlgorithm) (password salt : List ℕ) (number : ℕ) (out : List ℕ) → length out ≡ 64 → take (digest_size hash) out ≡ iterated hash password salt number 1
+    → take (digest_size hash) out ≡ key_sum hash password salt number 1
+unfolding key_sum
+first-sum hash password salt number out el e =
+    let size : length (take (digest_size hash) out) ≡ digest_size hash = length-take-le (digest_size hash) out (omega (arith, digest_size-le hash)) in
+    sym (added-zeros (digest_size hash) (take (digest_size hash) out) size) ∙ ap (added (replicate (digest_size hash) 0)) e
+
+-- U_(n + 1) from U_n
+pub next-iterated : (hash : Pkcs12HashAlgorithm) (password salt : List ℕ) (number n size : ℕ) (last out : List ℕ) → size ≡ digest_size hash
+    → take (digest_size hash) last ≡ iterated hash password salt number n → take (digest_size hash) out ≡ hmac hash password (take size last ++ [])
+    → take (digest_size hash) out ≡ iterated hash password salt number (n + 1)
+unfolding iterated
+next-iterated hash password salt number n size last out es el eo =
+    rw (add-one n) (eo ∙ ap (hmac hash password) (append-nil (take size last) ∙ ap (λ k. take k last) es ∙ el))
+
+-- U_1 + … + U_n + U_(n + 1)
+pub next-sum : (hash : Pkcs12HashAlgorithm) (password salt : List ℕ) (number n : ℕ) (out sum new : List ℕ)
+    → take (digest_size hash) sum ≡ key_sum hash password salt number n → take (digest_size hash) out ≡ iterated hash password salt number (n + 1) → new ≡ added sum out
+    → take (digest_size hash) new ≡ key_sum hash password salt number (n + 1)
+unfolding key_sum
+next-sum hash password salt number n out sum new es eo en =
+    ap (take (digest_size hash)) en ∙ take-added (digest_size hash) sum out
+    ∙ (λ j. added (es j) ((eo ∙ ap (iterated hash password salt number) (add-one n)) j)) ∙ ap (key_sum hash password salt number) (sym (add-one n))

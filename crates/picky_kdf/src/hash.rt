@@ -1,0 +1,120 @@
+//! The five hash functions as one.
+
+ghost use Rattle.std.specs.Prelude.{◌≡◌, ⊤, ℕ, List, [], ◌++◌, take};
+ghost use Rattle.picky_kdf.specs.Hash.{block_size, digest, digest_size};
+
+use sha2::Digest;
+use std::alloc::AllocError;
+
+/// A hash function of FIPS 180-4 that a PKCS #12 store may name.
+#[derive(Clone, Copy, PartialEq, Eq, Debug)]
+pub enum Pkcs12HashAlgorithm {
+    /// SHA-1: 20 bytes, in blocks of 64 bytes.
+    Sha1,
+    /// SHA-224: 28 bytes, in blocks of 64 bytes.
+    Sha224,
+    /// SHA-256: 32 bytes, in blocks of 64 bytes.
+    Sha256,
+    /// SHA-384: 48 bytes, in blocks of 128 bytes.
+    Sha384,
+    /// SHA-512: 64 bytes, in blocks of 128 bytes.
+    Sha512,
+}
+
+impl Pkcs12HashAlgorithm {
+    // The bytes of a hash.
+    pub(crate) fn digest_size(self) -> usize
+        ensures { result ≡ digest_size self }
+    {
+        match self {
+            Pkcs12HashAlgorithm::Sha1 => 20,
+            Pkcs12HashAlgorithm::Sha224 => 28,
+            Pkcs12HashAlgorithm::Sha256 => 32,
+            Pkcs12HashAlgorithm::Sha384 => 48,
+            Pkcs12HashAlgorithm::Sha512 => 64,
+        }
+    }
+
+    // The bytes of a block, which are hashed at a time.
+    pub(crate) fn block_size(self) -> usize
+        ensures { result ≡ block_size self }
+    {
+        match self {
+            Pkcs12HashAlgorithm::Sha1 | Pkcs12HashAlgorithm::Sha224 | Pkcs12HashAlgorithm::Sha256 =>
+                64,
+            Pkcs12HashAlgorithm::Sha384 | Pkcs12HashAlgorithm::Sha512 => 128,
+        }
+    }
+}
+
+// A hasher of any of the five functions.
+#[derive(Drop)]
+pub(crate) enum Hasher {
+    Sha1(sha1::Sha1),
+    Sha224(sha2::Sha224),
+    Sha256(sha2::Sha256),
+    Sha384(sha2::Sha384),
+    Sha512(sha2::Sha512),
+}
+
+impl Hasher {
+    ghost use Rattle.picky_kdf.specs.declared.hash.Pkcs12HashAlgorithm.{Pkcs12HashAlgorithm};
+    ghost use Rattle.picky_kdf.specs.Hasher.{IsHolding};
+
+    pub(crate) fn new(hash: Pkcs12HashAlgorithm) -> Hasher
+        ensures { IsHolding hash result [] }
+    {
+        match hash {
+            Pkcs12HashAlgorithm::Sha1 => Hasher::Sha1(sha1::Sha1::new()),
+            Pkcs12HashAlgorithm::Sha224 => Hasher::Sha224(sha2::Sha224::new()),
+            Pkcs12HashAlgorithm::Sha256 => Hasher::Sha256(sha2::Sha256::new()),
+            Pkcs12HashAlgorithm::Sha384 => Hasher::Sha384(sha2::Sha384::new()),
+            Pkcs12HashAlgorithm::Sha512 => Hasher::Sha512(sha2::Sha512::new()),
+        }
+    }
+
+    // Adds `text` to the message.
+    pub(crate) fn update(&mut self, text: &[u8])
+        ensures { (hash : Pkcs12HashAlgorithm) → (message : List ℕ)
+            → IsHolding hash self.old message → IsHolding hash self.new (message ++ text.now) }
+    {
+        match self {
+            Hasher::Sha1(hasher) => hasher.update(text),
+            Hasher::Sha224(hasher) => hasher.update(text),
+            Hasher::Sha256(hasher) => hasher.update(text),
+            Hasher::Sha384(hasher) => hasher.update(text),
+            Hasher::Sha512(hasher) => hasher.update(text),
+        }
+    }
+
+    // The hash of the message, in the front of an array.
+    pub(crate) fn finalize(self) -> [u8; 64]
+        ensures { (hash : Pkcs12HashAlgorithm) → (message : List ℕ)
+            → IsHolding hash self message
+            → take (digest_size hash) result ≡ digest hash message }
+    {
+        let mut out = [0; 64];
+        match self {
+            Hasher::Sha1(hasher) => out[..20].copy_from_slice(&hasher.finalize()),
+            Hasher::Sha224(hasher) => out[..28].copy_from_slice(&hasher.finalize()),
+            Hasher::Sha256(hasher) => out[..32].copy_from_slice(&hasher.finalize()),
+            Hasher::Sha384(hasher) => out[..48].copy_from_slice(&hasher.finalize()),
+            Hasher::Sha512(hasher) => out[..64].copy_from_slice(&hasher.finalize()),
+        }
+        out
+    }
+}
+
+impl Clone for Hasher {
+    ghost is_clone = { λ x y. y ≡ x };
+
+    fn clone(&self) -> Result<Hasher, AllocError> {
+        Ok(match self {
+            Hasher::Sha1(hasher) => Hasher::Sha1(hasher.clone()?),
+            Hasher::Sha224(hasher) => Hasher::Sha224(hasher.clone()?),
+            Hasher::Sha256(hasher) => Hasher::Sha256(hasher.clone()?),
+            Hasher::Sha384(hasher) => Hasher::Sha384(hasher.clone()?),
+            Hasher::Sha512(hasher) => Hasher::Sha512(hasher.clone()?),
+        })
+    }
+}

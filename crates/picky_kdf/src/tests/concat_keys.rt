@@ -1,0 +1,97 @@
+//! Values by ConcatKDFHash of Python's cryptography, from scripts/picky_kdf_vectors.py.
+
+/// Algorithm, size, bytes of the secret, of apu and of apv, key.
+pub(crate) type Case = (&'static str, usize, usize, usize, usize, &'static str);
+
+pub(crate) const CONCAT_KEYS: [Case; 13] = [
+    ("A128GCM", 16, 32, 0, 3, "3ec222800242d987aa31f172ae0cfbb3"),
+    (
+        "A192GCM",
+        24,
+        48,
+        0,
+        0,
+        "0433399800db74ca371283f4029efaade60edbb9332827d5",
+    ),
+    (
+        "A256GCM",
+        32,
+        66,
+        5,
+        65,
+        "7bf6e1b454c76e1f5c0ae1d7ea1c4cace8513b0f532230846fb2c9672cbe7c37",
+    ),
+    (
+        "A128CBC-HS256",
+        32,
+        0,
+        5,
+        3,
+        "d5c9daae9ed2c0e1e75ace9729b9e477f5bc9776ac997af9973aaf0938af0964",
+    ),
+    (
+        "A192CBC-HS384",
+        48,
+        32,
+        64,
+        0,
+        "8aed5e3bed9ab99ed6886bdaaab1cd186a4bb5a8bd2bd4486a685f4be13d1c9f4161d046c8eebe1a57c1dafdcfb31776",
+    ),
+    (
+        "A256CBC-HS512",
+        64,
+        48,
+        64,
+        65,
+        "d12694a11e02c41827ac68a5ff6bbba93e56db06d41742eb2f03636f68e6f1a7bb05533922c422a8e6a310b9b8bf73de6621235ca6c8062f3f9d138bb2f4b4bb",
+    ),
+    (
+        "ECDH-ES+A128KW",
+        16,
+        66,
+        300,
+        3,
+        "51f5207cb7185dce8fe69a7db223c124",
+    ),
+    (
+        "ECDH-ES+A192KW",
+        24,
+        0,
+        300,
+        0,
+        "a84ae0ef46b791386171a5c18fae61e4378115d91077341f",
+    ),
+    (
+        "ECDH-ES+A256KW",
+        32,
+        32,
+        0,
+        65,
+        "f40f1646150e9967ed904f1cc69a7b4aa19c9ff08097c63fddcb15c3b0034024",
+    ),
+    ("", 1, 48, 0, 3, "1b"),
+    (
+        "x",
+        31,
+        66,
+        5,
+        0,
+        "d8cfe16e3a5810232c9bf4e72ff46a4490a53ddd7bf4fe9a9f89f8b0fb4612",
+    ),
+    (
+        "x",
+        33,
+        0,
+        5,
+        65,
+        "dca277318f18c6ec95c2a68415ed9e3aa63bc3b3bb5a8057ab6b8726de6ffd0c37",
+    ),
+    (
+        "x",
+        63,
+        32,
+        64,
+        3,
+        "705eecd0efa41a50a74d940a916158f7c69237157be1965034d7579a7e3d28931a2ad6cdc2e0c5a7d99332196a500683f2f2c356fd0d8dc374b79c3677e56f",
+    ),
+];

@@ -1,0 +1,5 @@
+pub mod Family
+pub mod Sizes
+pub mod Spki
+pub mod Records
+pub mod RecordLaws

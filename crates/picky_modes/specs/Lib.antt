@@ -1,0 +1,5 @@
+pub mod Blocks
+pub mod Cbc
+pub mod KeyWrap
+pub mod Pbes1
+pub mod Repeated
