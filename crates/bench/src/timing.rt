@@ -4,6 +4,7 @@ ghost use Rattle.std.specs.Prelude.{◌≤◌, IfOk};
 use crate::checksums::counted;
 use crate::{calls, derivations};
 use anyhow::Result;
+use picky_cipher::cbc_encrypt;
 use std::io;
 use std::time::Instant;
 
@@ -30,6 +31,7 @@ pub(crate) fn print(rt: &HostRuntime) -> Result<()> {
     time_seal(rt, "gcm seal of 16 bytes", 16, 1 << 16)?;
     time_seal(rt, "gcm seal of 1 KiB", 1024, 1 << 12)?;
     time_seal(rt, "gcm seal of 1 MiB", MEBIBYTE, 8)?;
+    time_cbc(rt)?;
     derivations::time(rt)
 }
 
@@ -69,5 +71,16 @@ fn time_seal(rt: &HostRuntime, name: &str, size: usize, times: u64) -> Result<()
         let _tag = calls::seal(&aes, &[0; 12], &[], text.as_mut_slice())?;
     }
     report(rt, name, times.saturating_mul(size as u64), &start)?;
+    Ok(())
+}
+
+fn time_cbc(rt: &HostRuntime) -> Result<()> {
+    let aes = calls::aes(&[7; 16])?;
+    let text = counted(rt.alloc(), MEBIBYTE)?;
+    let start = Instant::now(rt)?;
+    for _ in 0..8 {
+        let _sealed = cbc_encrypt(rt.alloc(), &aes, &[0; 16], text.as_slice())?;
+    }
+    report(rt, "aes-128 cbc", 8 * MEBIBYTE as u64, &start)?;
     Ok(())
 }
