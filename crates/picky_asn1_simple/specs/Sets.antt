@@ -1,0 +1,31 @@
+-- The contents octets of restricted character strings: the bytes of the string, which are in its set (X.690 section 8.23).
+use Rattle.std.specs.Prelude.{◌≡◌, ℕ, ◌==◌, ◌||◌, Bool, nat_lt, if◌then◌else◌, List, codes, Result, Ok, Err}
+use Rattle.std.specs.List.{list_all, list_any}
+use Rattle.std.specs.Int.{is_in_range}
+use Rattle.picky_der.specs.declared.fault.DerError.{DerError}
+use Rattle.picky_der.specs.declared.fault.DerError.TheVariants.{BadValue}
+use Rattle.picky_der.specs.Primitive.{Contents}
+
+-- octets that pass a test, as themselves
+abbrev pub tested_of : (List ℕ → Bool) → List ℕ → Result (List ℕ) DerError
+tested_of test octets = if test octets then Ok octets else Err BadValue
+
+-- the octets of a set, which a test decides
+abbrev pub tested_contents : (List ℕ → Type 0) → (List ℕ → Bool) → Contents (List ℕ)
+tested_contents InSet test = record { in_form = InSet; Octets = λ octets x. octets ≡ x; decode = tested_of test }
+
+-- whether each octet is 00 to 7F
+abbrev pub is_ia5 : List ℕ → Bool
+is_ia5 octets = list_all (λ b. nat_lt b 0x80) octets
+
+-- whether each octet is a digit or a space
+abbrev pub is_numeric : List ℕ → Bool
+is_numeric octets = list_all (λ b. is_in_range 0x30 0x39 b || b == 0x20) octets
+
+-- whether each octet is a letter, a digit or a sign of PrintableString
+abbrev pub is_printable_octet : ℕ → Bool
+is_printable_octet b =
+    is_in_range 0x41 0x5A b || (is_in_range 0x61 0x7A b || (is_in_range 0x30 0x39 b || list_any (λ c. b == c) (codes " '()+,-./:=?")))
+
+abbrev pub is_printable : List ℕ → Bool
+is_printable octets = list_all is_printable_octet octets

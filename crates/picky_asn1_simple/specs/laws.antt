@@ -1,0 +1,2 @@
+-- What the laws of the simple wrappers rest on.
+pub mod Sets

@@ -1,0 +1,10 @@
+//! Restricted strings of ASN.1 under their tags, as DER: [`StringAsn1`], with a name for each kind.
+#![tactic(auto)]
+
+mod kinds;
+mod string;
+
+pub use kinds::{
+    GeneralStringAsn1, Ia5StringAsn1, NumericStringAsn1, PrintableStringAsn1, Utf8StringAsn1,
+};
+pub use string::{DecidedSet, StringAsn1};

@@ -1,0 +1,10 @@
+pub mod Form
+pub mod Length
+pub mod Natural
+pub mod Plain
+pub mod Primitive
+pub mod Raw
+pub mod Reading
+pub mod Strings
+pub mod View
+pub mod laws

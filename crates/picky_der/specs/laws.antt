@@ -1,0 +1,10 @@
+-- What the laws of the types rest on.
+pub mod Headers
+pub mod Lengths
+pub mod Natural
+pub mod Plain
+pub mod Primitives
+pub mod Raw
+pub mod Steps
+pub mod Strings
+pub mod Whole

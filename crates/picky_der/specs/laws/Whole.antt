@@ -1,0 +1,64 @@
+-- One value, and nothing after it.
+use Rattle.std.proofs.Common.{◌≡◌, ℕ, List, [], ◌++◌, Result, Ok, Err, refl, sym, ap, subst, ◌∙◌, inl, inr}
+use Rattle.std.proofs.lemmas.List.{append-nil}
+use Rattle.picky_der.specs.declared.fault.DerError.{DerError}
+use Rattle.picky_der.specs.declared.fault.DerError.TheVariants.{Truncated, WrongTag, BadLength, BadValue, TrailingBytes, TooDeep, OutOfMemory}
+use Rattle.picky_der.specs.Length.{TailIsBytes}
+use Rattle.picky_der.specs.Reading.{◌>>=◌, Gives, raw_at, end_at}
+use Rattle.picky_der.specs.Form.{Form, Readable, Writable, GivesOrTooDeep, OkUnlessDeep, Appends, whole}
+use Rattle.picky_der.specs.laws.Steps.{bind_ok, ok_is}
+use Rattle.picky_der.specs.laws.Headers.{raw_again, end_takes, end_again}
+
+-- what a call answered, where reading gives y or stops at the limit
+pub OkUnlessDeep-from : {X Y : Type 0} (view : X → Y) (result : Result X DerError) (read : Result Y DerError) (y : Y) → Gives view result read → GivesOrTooDeep read y → OkUnlessDeep view result y
+OkUnlessDeep-from view (Ok x) read y p (inl q) = ok_is (view x) y (sym p ∙ q)
+OkUnlessDeep-from view (Ok x) read y p (inr q) = absurd (cc (p, q))
+OkUnlessDeep-from view (Err OutOfMemory) read y p q = tt
+OkUnlessDeep-from view (Err TooDeep) read y p q = tt
+OkUnlessDeep-from view (Err Truncated) read y p (inl q) = absurd (cc (p, q))
+OkUnlessDeep-from view (Err Truncated) read y p (inr q) = absurd (cc (p, q))
+OkUnlessDeep-from view (Err (WrongTag a b)) read y p (inl q) = absurd (cc (p, q))
+OkUnlessDeep-from view (Err (WrongTag a b)) read y p (inr q) = absurd (cc (p, q))
+OkUnlessDeep-from view (Err BadLength) read y p (inl q) = absurd (cc (p, q))
+OkUnlessDeep-from view (Err BadLength) read y p (inr q) = absurd (cc (p, q))
+OkUnlessDeep-from view (Err BadValue) read y p (inl q) = absurd (cc (p, q))
+OkUnlessDeep-from view (Err BadValue) read y p (inr q) = absurd (cc (p, q))
+OkUnlessDeep-from view (Err TrailingBytes) read y p (inl q) = absurd (cc (p, q))
+OkUnlessDeep-from view (Err TrailingBytes) read y p (inr q) = absurd (cc (p, q))
+
+module _ {X : Type 0} (f : Form X) (law : Readable f) where
+  -- a value that was taken with nothing left is spelled by all the bytes
+  pub taken_whole : (bytes s r : List ℕ) (y x : X) → f.in_form y → f.Spells s y → bytes ≡ s ++ r → r ≡ [] → y ≡ x → f.in_form x × f.Spells bytes x
+  taken_whole bytes s r y x formed spelled parts none same =
+      let all : bytes ≡ s = parts ∙ ap (λ (t : List ℕ). s ++ t) none ∙ append-nil s in
+      (subst f.in_form same formed, subst (λ (z : X). f.Spells bytes z) same (rw all spelled))
+
+  pub whole_takes : (bytes : List ℕ) (x : X) → TailIsBytes bytes → whole f.reading bytes ≡ Ok x → f.in_form x × f.Spells bytes x
+  unfolding whole
+  whole_takes bytes x fits e =
+      let v = bind_ok (f.reading 0 bytes) (λ v. end_at v.1 >>= λ _. Ok v.0) x e in
+      let n = bind_ok (end_at v.0.1) (λ _. Ok v.0.0) x v.2 in
+      let t = law.takes 0 bytes v.0.0 v.0.1 fits v.1 in
+      taken_whole bytes t.spelling v.0.1 v.0.0 x t.formed t.spelled t.parts (end_takes v.0.1 n.0 n.1) (ok_is v.0.0 x n.2)
+
+  -- a spelling with nothing after it
+  pub again_alone : (depth : ℕ) (bytes : List ℕ) (x : X) → f.in_form x → f.Spells bytes x → GivesOrTooDeep {Y = X × List ℕ} (f.reading depth bytes) (x, [])
+  again_alone depth bytes x formed spelled = rw append-nil at (law.again depth bytes [] x formed spelled)
+
+  pub whole_again : (bytes : List ℕ) (x : X) → f.in_form x → f.Spells bytes x → GivesOrTooDeep (whole f.reading bytes) x
+  unfolding whole
+  whole_again bytes x formed spelled =
+      elim (again_alone 0 bytes x formed spelled) [
+        | inl e ↦ inl (rw (e, end_again) refl)
+        | inr e ↦ inr (rw e refl)
+      ]
+
+module _ {X : Type 0} (f : Form X) (law : Writable f) where
+  -- an encoding that stands alone is one value
+  pub raw_alone : (bytes : List ℕ) (x : X) → f.Encodes bytes x → raw_at bytes ≡ Ok (bytes, [])
+  raw_alone bytes x encoded = rw append-nil at (raw_again bytes [] (law.written bytes x encoded))
+
+  pub raw_appended : (old new : List ℕ) (x : X) → old ≡ [] → Appends (λ s. f.Encodes s x) old new → raw_at new ≡ Ok (new, [])
+  raw_appended old new x none a =
+      let new-is : new ≡ a.encoding = a.new_is ∙ ap (λ (t : List ℕ). t ++ a.encoding) none in
+      rw new-is (raw_alone a.encoding x a.encoded)

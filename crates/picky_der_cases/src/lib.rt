@@ -1,0 +1,10 @@
+//! Cases of DER with values from outside: the standard's rules on chosen bytes, a table made by another reader, and
+//! inputs whose time must grow with their bytes. There is nothing here but tests.
+#![tactic(auto)]
+
+#[cfg(test)]
+mod cases;
+#[cfg(test)]
+mod table;
+#[cfg(test)]
+mod tests;
