@@ -4,7 +4,12 @@
 //     hash KEY AAD TEXT                the hash
 //     seal KEY NONCE AAD TEXT          the ciphertext and the tag
 //     open KEY NONCE AAD SEALED TAG    the text, or `refused` and the buffer that the call left
-use crate::calls;
+//     cbc KEY IV TEXT                  the text sealed, and whether that is opened to its length
+//     wrap KEY PLAIN                   the wrapped key
+//     unwrap KEY WRAPPED               the key, or `refused`
+//     hmac HASH KEY TEXT               the HMAC; HASH is sha1, sha224, sha256, sha384 or sha512
+//     pbkdf2 HASH PASSWORD SALT ITERATIONS SIZE    the derived key; the numbers in decimal
+use crate::{calls, derivations, modes};
 use anyhow::{Context, Result, bail};
 use hex::FromHex;
 use std::alloc::Global;
@@ -20,25 +25,25 @@ pub(crate) fn answer_all(rt: &HostRuntime) -> Result<()> {
 
 // The fields of a case, read from left to right.
 #[derive(Drop)]
-struct Fields<'a> {
+pub(crate) struct Fields<'a> {
     rest: &'a str,
 }
 
 impl<'a> Fields<'a> {
-    fn next(&mut self) -> &'a str {
+    pub(crate) fn next(&mut self) -> &'a str {
         let (field, rest) = self.rest.split_once(' ').unwrap_or((self.rest, ""));
         self.rest = rest;
         field
     }
 
-    fn bytes(&mut self, alloc: Global) -> Result<Vec<u8>> {
+    pub(crate) fn bytes(&mut self, alloc: Global) -> Result<Vec<u8>> {
         match self.next() {
             "-" => Ok(Vec::new(alloc)),
             field => Ok(hex::decode(alloc, field)?),
         }
     }
 
-    fn block(&mut self) -> Result<[u8; 16]> {
+    pub(crate) fn block(&mut self) -> Result<[u8; 16]> {
         <[u8; 16] as FromHex>::from_hex(self.next()).context("a block of 16 bytes")
     }
 
@@ -47,7 +52,7 @@ impl<'a> Fields<'a> {
     }
 }
 
-fn text_of(alloc: Global, bytes: &[u8]) -> Result<String> {
+pub(crate) fn text_of(alloc: Global, bytes: &[u8]) -> Result<String> {
     if bytes.is_empty() {
         return Ok(String::from_str(alloc, "-")?);
     }
@@ -61,6 +66,11 @@ fn answer(alloc: Global, line: &str) -> Result<String> {
         "hash" => answer_hash(alloc, &mut fields),
         "seal" => answer_seal(alloc, &mut fields),
         "open" => answer_open(alloc, &mut fields),
+        "cbc" => modes::answer_cbc(alloc, &mut fields),
+        "wrap" => modes::answer_wrap(alloc, &mut fields),
+        "unwrap" => modes::answer_unwrap(alloc, &mut fields),
+        "hmac" => derivations::answer_hmac(alloc, &mut fields),
+        "pbkdf2" => derivations::answer_pbkdf2(alloc, &mut fields),
         word => bail!("{word:?} is no case"),
     }
 }

@@ -9,6 +9,7 @@ mod calls;
 mod cases;
 mod checksums;
 mod derivations;
+mod modes;
 mod timing;
 
 use anyhow::{Result, bail};

@@ -14,8 +14,8 @@
 
 pub use picky_aes::Aes;
 pub use picky_gcm::{HashTable, gcm_open, gcm_seal};
-pub use picky_modes::{
-    NoPbes1, Pbes1Blocks, Pbes1Kind, cbc_decrypt, cbc_encrypt, key_unwrap, key_wrap, pbes1_cbc_decrypt,
-    pbes1_cbc_encrypt,
-};
 pub use picky_kdf::{Pbkdf1Usage, Pkcs12HashAlgorithm, concat_kdf, hmac, pbkdf1, pbkdf2};
+pub use picky_modes::{
+    NoPbes1, Pbes1Blocks, Pbes1Kind, cbc_decrypt, cbc_encrypt, key_unwrap, key_wrap,
+    pbes1_cbc_decrypt, pbes1_cbc_encrypt,
+};
