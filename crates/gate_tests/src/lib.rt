@@ -2,4 +2,6 @@
 #![tactic(auto)]
 
 #[cfg(test)]
+mod dates;
+#[cfg(test)]
 mod tests;
