@@ -19,7 +19,9 @@ impl AdmitWords<'_> {
 
     /// The policy of the moment, without leeway.
     pub fn policy(self) -> Policy
-        ensures { result.validator ≡ date_at self.entry.now }
+        ensures validator { result.validator ≡ date_at self.entry.now }
+        ensures moment { result.now ≡ Some self.entry.now }
+        ensures leeway { result.leeway ≡ 0 }
     {
         let date = JwtDate::new_with_leeway(self.now as i64, 0);
         Policy {

@@ -10,5 +10,5 @@ use Rattle.picky_gate.proofs.documents.decide_text.Goals as goal
 pub returns-in-Err : goal.returns-in-Err
 returns-in-Err c =
     let table = admits_table (Signs c.args.provider.now) c.args.ring.now c.args.words.text.now in
-    let due = subst (λ (d : JwtDate). IfSome (cause_of c.in-Err.refusal) (table d).refuses) c.policy.ensures c.in-Err.ensures.first in
+    let due = subst (λ (d : JwtDate). IfSome (cause_of c.in-Err.refusal) (table d).refuses) c.policy.ensures.validator c.in-Err.ensures.first in
     named_refuses refused (table (date_at c.args.words.now)) (cause_of c.in-Err.refusal) due
