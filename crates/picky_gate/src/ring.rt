@@ -18,7 +18,7 @@ pub struct KeyName(pub String);
 /// What a ring holds under a name.
 #[derive(Debug, Drop)]
 pub enum RingEntry {
-    /// A public key, with the algorithm that its signatures are checked with where a text names none.
+    /// A public key, and the signature algorithm of its texts.
     Verify {
         key: PublicKey,
         algorithm: SignatureAlgorithm,
