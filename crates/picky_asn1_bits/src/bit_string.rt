@@ -8,7 +8,7 @@ ghost use Rattle.std.specs.Cmp.Rules.{comparing, hashing};
 ghost use Rattle.std.specs.Hash as fed;
 ghost use Rattle.std.specs.Int.{bit_at};
 ghost use Rattle.picky_asn1_tag.specs.Hex.{hex_text};
-ghost use Rattle.picky_asn1_bits.specs.Bits.{unused, payload, bit_count, bit, bit_of, SetsBit, Resizes};
+ghost use Rattle.picky_asn1_bits.specs.Bits.{unused, payload, bit_count, bit, bit_of, IsBitString, SetsBit, Resizes};
 
 use picky_asn1_tag::HexBytes;
 use std::alloc::{AllocError, Global};
@@ -106,7 +106,8 @@ impl BitString {
 
     /// The count and the payload, the contents of a BIT STRING.
     pub fn as_bytes(&self) -> &[u8]
-        ensures { result.now ≡ self.now }
+        ensures bytes { result.now ≡ self.now }
+        ensures bit_string { IsBitString result.now }
     {
         self.data.as_slice()
     }
