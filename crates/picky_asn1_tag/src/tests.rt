@@ -102,6 +102,22 @@ fn default_and_copy<T: Empty + CopyIn + Drop>(alloc: Global) -> Result<T, AllocE
     default.copy_in(alloc)
 }
 
+fn copy_of<T: CopyIn>(alloc: Global, value: &T) -> Result<T, AllocError> {
+    value.copy_in(alloc)
+}
+
+#[test]
+fn tags_and_their_parts_have_copies(rt: HostRuntime) -> Result<(), Fail> {
+    let alloc = rt.alloc();
+    assert_eq!(rt; copy_of(alloc, &Tag::SET)?, Tag::SET);
+    assert_eq!(rt; copy_of(alloc, &TagClass::Private)?, TagClass::Private);
+    assert_eq!(rt;
+        copy_of(alloc, &Encoding::Constructed)?,
+        Encoding::Constructed
+    );
+    Ok(())
+}
+
 #[test]
 fn types_have_tags_names_and_defaults(rt: HostRuntime) -> Result<(), Fail> {
     let text: String = default_and_copy(rt.alloc())?;

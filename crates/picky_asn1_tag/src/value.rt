@@ -3,8 +3,10 @@ ghost use Rattle.std.specs.Prelude.{◌≡◌, ◌≢◌, ◌↔◌, ℕ, ◌%�
 ghost use Rattle.std.proofs.Common.{arith};
 ghost use Rattle.picky_asn1_tag.specs.Default.{one_default};
 ghost use Rattle.picky_asn1_tag.specs.declared.tag.Tag.{Tag};
+ghost use Rattle.picky_asn1_tag.specs.declared.tag.TagClass.{TagClass};
+ghost use Rattle.picky_asn1_tag.specs.declared.tag.Encoding.{Encoding};
 
-use crate::tag::Tag;
+use crate::tag::{Encoding, Tag, TagClass};
 use std::alloc::{AllocError, Global};
 
 /// A type with a tag of its own.
@@ -301,4 +303,40 @@ impl Empty for String {
     }
 
     ghost one_default = { λ x y. one_default [] (string_bytes x) (string_bytes y) };
+}
+
+impl Asn1Value for Tag {
+    ghost Meaning = { Tag };
+
+    ghost meaning = { λ tag. tag };
+}
+
+impl CopyIn for Tag {
+    fn copy_in(&self, _alloc: Global) -> Result<Tag, AllocError> {
+        Ok(*self)
+    }
+}
+
+impl Asn1Value for TagClass {
+    ghost Meaning = { TagClass };
+
+    ghost meaning = { λ class. class };
+}
+
+impl CopyIn for TagClass {
+    fn copy_in(&self, _alloc: Global) -> Result<TagClass, AllocError> {
+        Ok(*self)
+    }
+}
+
+impl Asn1Value for Encoding {
+    ghost Meaning = { Encoding };
+
+    ghost meaning = { λ encoding. encoding };
+}
+
+impl CopyIn for Encoding {
+    fn copy_in(&self, _alloc: Global) -> Result<Encoding, AllocError> {
+        Ok(*self)
+    }
 }
