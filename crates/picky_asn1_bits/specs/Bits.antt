@@ -1,5 +1,5 @@
 -- BIT STRING values: a count of unused bits, and a payload whose first bit is the high bit of its first byte (X.690 section 8.6.2).
-use Rattle.std.specs.Prelude.{◌≡◌, ◌≢◌, ◌⊎◌, ℕ, ◌+◌, ◌-◌, ◌*◌, ◌/◌, ◌%◌, ◌<◌, ◌≤◌, ◌^◌, Bool, true, false, List, length, drop, slice_index}
+use Rattle.std.specs.Prelude.{◌≡◌, ◌≢◌, ◌⊎◌, ℕ, ◌+◌, ◌-◌, ◌*◌, ◌/◌, ◌%◌, ◌<◌, ◌≤◌, ◌^◌, Bool, true, false, List, ◌∷◌, ◌++◌, length, take, drop, slice_index}
 use Rattle.std.specs.Int.{bit_at}
 
 -- how many bits of the last byte are unused
@@ -9,6 +9,11 @@ unused bytes = slice_index bytes 0
 -- the bytes after the count
 abbrev pub payload : List ℕ → List ℕ
 payload bytes = drop 1 bytes
+
+-- the count stays, and these bytes are the payload. Bytes of another length are cut, or filled up from the payload, so that its length stays
+abbrev pub with_payload : List ℕ → List ℕ → List ℕ
+with_payload bytes new =
+    unused bytes ∷ take (length (payload bytes)) (new ++ drop (length new) (payload bytes))
 
 -- how many bits it has
 abbrev pub bit_count : List ℕ → ℕ

@@ -56,7 +56,7 @@ fn without_low_bits(byte: u8, count: usize) -> u8
 
 impl BitString {
     ghost use Rattle.std.specs.Borrow.{sem};
-    ghost use Rattle.picky_asn1_bits.specs.Lends.{LendsBucket};
+    ghost use Rattle.picky_asn1_bits.specs.Lends.{LendsBucket, LendsPayload};
 
     /// So many bits, all 0. Refused for want of memory alone.
     pub fn with_len(alloc: Global, num_bits: usize) -> Result<BitString, AllocError>
@@ -117,6 +117,15 @@ impl BitString {
         ensures { result.now ≡ payload self.now }
     {
         &self.data[1..]
+    }
+
+    /// The payload, to be changed in place. The count and the length stay.
+    pub fn payload_view_mut(&mut self) -> &mut [u8]
+        ensures* writes_back { sem 𝓛 (LendsPayload self.entry result) }
+        ensures value { result.now ≡ payload self.old }
+    {
+        // Of an index by a range it isn't known what the `Vec` holds afterwards.
+        self.data.slice_mut(1..)
     }
 
     /// The payload, without taking memory.

@@ -1,6 +1,7 @@
 //! What is proved of bit strings, integers and octet strings beside their calls.
-ghost use Rattle.std.specs.Prelude.{◌≡◌, ◌≢◌, ◌↔◌, pos, [], Some, IsTrue};
+ghost use Rattle.std.specs.Prelude.{◌≡◌, ◌≢◌, ◌↔◌, pos, [], ◌∷◌, length, Some, IsTrue};
 ghost use Rattle.std.specs.declared.cmp.Ordering.TheVariants.{Equal};
+ghost use Rattle.picky_asn1_bits.specs.Bits.{unused, payload, with_payload};
 ghost use Rattle.picky_asn1_bits.specs.Integer.{int_of, unsigned_of, unsigned_spelling, IsShortest};
 
 use crate::bit_string::BitString;
@@ -13,6 +14,13 @@ use std::hash::Hash;
 pub fn unsigned_integers_keep_their_number(bytes: &[u8])
     ensures number { int_of (unsigned_spelling bytes.now) ≡ pos (unsigned_of bytes.now) }
     ensures shortest { bytes.now ≢ [] → IsShortest (unsigned_spelling bytes.now) }
+{}
+
+/// Bytes of the payload's length, written through `BitString::payload_view_mut`, are the payload, behind the same
+/// count.
+pub fn written_payloads_follow_the_count(bits: &BitString, bytes: &[u8])
+    ensures { length bytes.now ≡ length (payload bits.now)
+        → with_payload bits.now bytes.now ≡ unused bits.now ∷ bytes.now }
 {}
 
 /// Bit strings are equal where they are the same. Equal ones hash equally, and order and equality agree.

@@ -357,6 +357,27 @@ fn bit_strings_hold_their_bits(rt: HostRuntime) -> Result<(), Fail> {
     Ok(())
 }
 
+#[test]
+fn payloads_are_written_in_place(rt: HostRuntime) -> Result<(), Fail> {
+    let bytes = vec![in rt.alloc(); 0xffu8; 2]?;
+    let mut twelve = BitString::with_bytes_and_len(rt.alloc(), bytes, 12)?;
+    let payload = twelve.payload_view_mut();
+    assert_eq!(rt; &*payload, [0xff, 0xff].as_slice());
+    payload[1] = 0x0f;
+    payload[0] = 0xa5;
+    assert_eq!(rt; twelve.as_bytes(), [0x04, 0xa5, 0x0f].as_slice());
+    assert_eq!(rt; twelve.get_num_bits(), 12);
+    twelve.payload_view_mut().fill(0x81);
+    assert_eq!(rt; twelve.as_bytes(), [0x04, 0x81, 0x81].as_slice());
+    assert_eq!(rt; twelve.get_num_bits(), 12);
+
+    let mut none = BitString::with_len(rt.alloc(), 0)?;
+    assert!(rt; none.payload_view_mut().is_empty());
+    assert_eq!(rt; none.as_bytes(), [0x00].as_slice());
+    assert_eq!(rt; none.get_num_bits(), 0);
+    Ok(())
+}
+
 fn default_and_tag<T: Asn1Type + Empty + CopyIn + Drop>(
     alloc: Global,
 ) -> Result<(T, Tag, &'static str), AllocError> {
