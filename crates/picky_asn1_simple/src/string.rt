@@ -11,7 +11,7 @@ use picky_asn1_text::{CharSet, RestrictedString};
 use picky_der::{DerError, DerForm, DerRead, DerReader, DerTagged, DerWrite, write_value};
 use std::alloc::{AllocError, Global};
 use std::marker::PhantomData;
-use std::ops::Deref;
+use std::ops::{Deref, DerefMut};
 
 /// A set of byte lists with a test that contracts can run.
 pub trait DecidedSet: CharSet {
@@ -59,6 +59,23 @@ impl<K: Asn1Type, C: CharSet> Deref for StringAsn1<K, C> {
     }
 }
 
+impl<K: Asn1Type, C: CharSet> DerefMut for StringAsn1<K, C> {
+    ghost deref_mut_gives = { λ wrapped string. string ≡ wrapped.string };
+
+    fn deref_mut(&mut self) -> &mut RestrictedString<C> {
+        &mut self.string
+    }
+}
+
+impl<K: Asn1Type, C: CharSet> StringAsn1<K, C> {
+    /// A copy, in memory of its own.
+    pub fn clone(&self, alloc: Global) -> Result<StringAsn1<K, C>, AllocError>
+        ensures { IfOk result (λ copy. copy ≡ self.now) }
+    {
+        Ok(StringAsn1::from(self.string.clone(alloc)?))
+    }
+}
+
 impl<K: Asn1Type, C: CharSet> Asn1Type for StringAsn1<K, C> {
     ghost TAG = { K.TAG };
 
@@ -77,7 +94,7 @@ impl<K: Asn1Type, C: CharSet> Asn1Value for StringAsn1<K, C> {
 
 impl<K: Asn1Type, C: CharSet> CopyIn for StringAsn1<K, C> {
     fn copy_in(&self, alloc: Global) -> Result<StringAsn1<K, C>, AllocError> {
-        Ok(StringAsn1::from(self.string.clone(alloc)?))
+        self.clone(alloc)
     }
 }
 
