@@ -5,6 +5,7 @@ mod kinds;
 mod string;
 
 pub use kinds::{
-    GeneralStringAsn1, Ia5StringAsn1, NumericStringAsn1, PrintableStringAsn1, Utf8StringAsn1,
+    BmpStringAsn1, GeneralStringAsn1, Ia5StringAsn1, NumericStringAsn1, PrintableStringAsn1,
+    Utf8StringAsn1,
 };
 pub use string::{DecidedSet, StringAsn1};
