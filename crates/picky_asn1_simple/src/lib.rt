@@ -1,9 +1,11 @@
 //! Restricted strings of ASN.1 under their tags, as DER: [`StringAsn1`], with a name for each kind.
 #![tactic(auto)]
 
+mod bit_string;
 mod kinds;
 mod string;
 
+pub use bit_string::BitStringAsn1;
 pub use kinds::{
     BmpStringAsn1, GeneralStringAsn1, Ia5StringAsn1, NumericStringAsn1, PrintableStringAsn1,
     Utf8StringAsn1,
