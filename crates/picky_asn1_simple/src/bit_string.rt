@@ -50,9 +50,18 @@ impl Deref for BitStringAsn1 {
 }
 
 impl DerefMut for BitStringAsn1 {
+    ghost use Rattle.std.specs.Prelude.{◌≡◌};
+    ghost use Rattle.std.specs.Borrow.{Lends, sem};
+    ghost use Rattle.picky_asn1_bits.specs.contracts.bit_string.BitString as bits;
+    ghost use Rattle.picky_asn1_simple.specs.contracts.bit_string.BitStringAsn1.{the_row};
+
     ghost deref_mut_gives = { λ wrapped bits. bits ≡ wrapped.0 };
 
-    fn deref_mut(&mut self) -> &mut BitString {
+    /// The bits, to be changed in place.
+    fn deref_mut(&mut self) -> &mut BitString
+        ensures* writes_back { sem 𝓛 (Lends the_row bits.the_row self.entry result (λ b. record { 0 = b })) }
+        ensures shows { result.now ≡ self.old.0 }
+    {
         &mut self.0
     }
 }

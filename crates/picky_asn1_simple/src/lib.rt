@@ -1,4 +1,5 @@
-//! Restricted strings of ASN.1 under their tags, as DER: [`StringAsn1`], with a name for each kind.
+//! Strings of ASN.1 under their tags, as DER: [`StringAsn1`], restricted strings with a name for each kind, and
+//! [`BitStringAsn1`].
 #![tactic(auto)]
 
 mod bit_string;

@@ -60,9 +60,18 @@ impl<K: Asn1Type, C: CharSet> Deref for StringAsn1<K, C> {
 }
 
 impl<K: Asn1Type, C: CharSet> DerefMut for StringAsn1<K, C> {
+    ghost use Rattle.std.specs.Prelude.{◌≡◌};
+    ghost use Rattle.std.specs.Borrow.{Lends, sem};
+    ghost use Rattle.picky_asn1_text.specs.contracts.restricted_string.RestrictedString as inner;
+    ghost use Rattle.picky_asn1_simple.specs.contracts.string.StringAsn1.{the_row};
+
     ghost deref_mut_gives = { λ wrapped string. string ≡ wrapped.string };
 
-    fn deref_mut(&mut self) -> &mut RestrictedString<C> {
+    /// The string, to be changed in place.
+    fn deref_mut(&mut self) -> &mut RestrictedString<C>
+        ensures* writes_back { sem 𝓛 (Lends (the_row K.row C.row C.CharSet) (inner.the_row C.row C.CharSet) self.entry result (λ string. record self.old { string = string })) }
+        ensures shows { result.now ≡ self.old.string }
+    {
         &mut self.string
     }
 }
