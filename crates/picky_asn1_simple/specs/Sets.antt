@@ -1,5 +1,5 @@
 -- The contents octets of restricted character strings: the bytes of the string, which are in its set (X.690 section 8.23).
-use Rattle.std.specs.Prelude.{◌≡◌, ℕ, ◌==◌, ◌||◌, Bool, nat_lt, if◌then◌else◌, List, codes, Result, Ok, Err}
+use Rattle.std.specs.Prelude.{◌≡◌, ℕ, ◌+◌, ◌*◌, ◌==◌, ◌||◌, ◌&&◌, Bool, true, false, nat_lt, if◌then◌else◌, List, [], ◌∷◌, codes, Result, Ok, Err}
 use Rattle.std.specs.List.{list_all, list_any}
 use Rattle.std.specs.Int.{is_in_range}
 use Rattle.picky_der.specs.declared.fault.DerError.{DerError}
@@ -29,3 +29,13 @@ is_printable_octet b =
 
 abbrev pub is_printable : List ℕ → Bool
 is_printable octets = list_all is_printable_octet octets
+
+-- whether this is a character of the Basic Multilingual Plane: no surrogate, and at most U+FFFF (X.680, 41.15)
+abbrev pub is_bmp_character : ℕ → Bool
+is_bmp_character c = nat_lt c 0xD800 || is_in_range 0xE000 0xFFFF c
+
+-- whether the octets are pairs of octets of such characters, the higher first
+abbrev pub is_bmp : List ℕ → Bool
+is_bmp [] = true
+is_bmp (high ∷ []) = false
+is_bmp (high ∷ low ∷ rest) = (nat_lt low 0x100 && is_bmp_character (high * 0x100 + low)) && is_bmp rest

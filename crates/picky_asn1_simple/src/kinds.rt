@@ -1,13 +1,17 @@
 // The kinds of strings: a tag, a name, and the set of its characters.
-ghost use Rattle.std.specs.Prelude.{◌≡◌};
+ghost use Rattle.std.specs.Prelude.{◌≡◌, []};
 ghost use Rattle.std.proofs.Common.{arith};
 ghost use Rattle.std.specs.Str.{is_utf8};
-ghost use Rattle.picky_asn1_simple.specs.Sets.{is_ia5, is_numeric, is_printable};
-ghost use Rattle.picky_asn1_simple.specs.laws.Sets.{ia5_decides, utf8_decides, numeric_decides, printable_decides};
+ghost use Rattle.picky_asn1_tag.specs.Default.{one_default};
+ghost use Rattle.picky_asn1_simple.specs.Sets.{is_ia5, is_numeric, is_printable, is_bmp};
+ghost use Rattle.picky_asn1_simple.specs.laws.Sets.{ia5_decides, utf8_decides, numeric_decides, printable_decides, bmp_decides};
 
 use crate::string::{DecidedSet, StringAsn1};
-use picky_asn1_tag::{Asn1Type, Tag};
-use picky_asn1_text::{Ia5CharSet, NumericCharSet, PrintableCharSet, Utf8CharSet};
+use picky_asn1_tag::{Asn1Type, Empty, Tag};
+use picky_asn1_text::{
+    BmpCharSet, BmpString, Ia5CharSet, Ia5String, NumericCharSet, PrintableCharSet, Utf8CharSet,
+};
+use std::alloc::{AllocError, Global};
 
 impl DecidedSet for Utf8CharSet {
     ghost test = { is_utf8 };
@@ -31,6 +35,12 @@ impl DecidedSet for PrintableCharSet {
     ghost test = { is_printable };
 
     ghost decides = { printable_decides };
+}
+
+impl DecidedSet for BmpCharSet {
+    ghost test = { is_bmp };
+
+    ghost decides = { bmp_decides };
 }
 
 /// The kind of `Utf8StringAsn1`.
@@ -101,6 +111,17 @@ impl Asn1Type for Ia5StringKind {
 /// An IA5String under its tag.
 pub type Ia5StringAsn1 = StringAsn1<Ia5StringKind, Ia5CharSet>;
 
+/// No character.
+impl Empty for Ia5StringAsn1 {
+    ghost IsDefault = { λ wrapped. wrapped.string ≡ [] };
+
+    fn empty(alloc: Global) -> Result<Ia5StringAsn1, AllocError> {
+        Ok(StringAsn1::from(Ia5String::empty(alloc)?))
+    }
+
+    ghost one_default = { λ x y. one_default [] x.string y.string };
+}
+
 /// The kind of `GeneralStringAsn1`.
 #[derive(Clone, Copy, Debug, PartialEq, Eq)]
 pub struct GeneralStringKind;
@@ -117,3 +138,42 @@ impl Asn1Type for GeneralStringKind {
 
 /// A GeneralString of bytes 00 to 7F under its tag.
 pub type GeneralStringAsn1 = StringAsn1<GeneralStringKind, Ia5CharSet>;
+
+/// No character.
+impl Empty for GeneralStringAsn1 {
+    ghost IsDefault = { λ wrapped. wrapped.string ≡ [] };
+
+    fn empty(alloc: Global) -> Result<GeneralStringAsn1, AllocError> {
+        Ok(StringAsn1::from(Ia5String::empty(alloc)?))
+    }
+
+    ghost one_default = { λ x y. one_default [] x.string y.string };
+}
+
+/// The kind of `BmpStringAsn1`.
+#[derive(Clone, Copy, Debug, PartialEq, Eq)]
+pub struct BmpStringKind;
+
+impl Asn1Type for BmpStringKind {
+    ghost TAG = { record { 0 = 30 } };
+
+    const TAG: Tag = Tag::BMP_STRING;
+
+    const NAME: &'static str = "BmpStringAsn1";
+
+    ghost one_byte = { λ h. absurd (Prim.omega arith) };
+}
+
+/// A BMPString under its tag: two bytes a character, the higher first.
+pub type BmpStringAsn1 = StringAsn1<BmpStringKind, BmpCharSet>;
+
+/// No character.
+impl Empty for BmpStringAsn1 {
+    ghost IsDefault = { λ wrapped. wrapped.string ≡ [] };
+
+    fn empty(alloc: Global) -> Result<BmpStringAsn1, AllocError> {
+        Ok(StringAsn1::from(BmpString::empty(alloc)?))
+    }
+
+    ghost one_default = { λ x y. one_default [] x.string y.string };
+}

@@ -11,7 +11,7 @@ use picky_asn1_text::{CharSet, RestrictedString};
 use picky_der::{DerError, DerForm, DerRead, DerReader, DerTagged, DerWrite, write_value};
 use std::alloc::{AllocError, Global};
 use std::marker::PhantomData;
-use std::ops::Deref;
+use std::ops::{Deref, DerefMut};
 
 /// A set of byte lists with a test that contracts can run.
 pub trait DecidedSet: CharSet {
@@ -59,6 +59,32 @@ impl<K: Asn1Type, C: CharSet> Deref for StringAsn1<K, C> {
     }
 }
 
+impl<K: Asn1Type, C: CharSet> DerefMut for StringAsn1<K, C> {
+    ghost use Rattle.std.specs.Prelude.{◌≡◌};
+    ghost use Rattle.std.specs.Borrow.{Lends, sem};
+    ghost use Rattle.picky_asn1_text.specs.contracts.restricted_string.RestrictedString as inner;
+    ghost use Rattle.picky_asn1_simple.specs.contracts.string.StringAsn1.{the_row};
+
+    ghost deref_mut_gives = { λ wrapped string. string ≡ wrapped.string };
+
+    /// The string, to be changed in place.
+    fn deref_mut(&mut self) -> &mut RestrictedString<C>
+        ensures* writes_back { sem 𝓛 (Lends (the_row K.row C.row C.CharSet) (inner.the_row C.row C.CharSet) self.entry result (λ string. record self.old { string = string })) }
+        ensures shows { result.now ≡ self.old.string }
+    {
+        &mut self.string
+    }
+}
+
+impl<K: Asn1Type, C: CharSet> StringAsn1<K, C> {
+    /// A copy, in memory of its own.
+    pub fn clone(&self, alloc: Global) -> Result<StringAsn1<K, C>, AllocError>
+        ensures { IfOk result (λ copy. copy ≡ self.now) }
+    {
+        Ok(StringAsn1::from(self.string.clone(alloc)?))
+    }
+}
+
 impl<K: Asn1Type, C: CharSet> Asn1Type for StringAsn1<K, C> {
     ghost TAG = { K.TAG };
 
@@ -77,7 +103,7 @@ impl<K: Asn1Type, C: CharSet> Asn1Value for StringAsn1<K, C> {
 
 impl<K: Asn1Type, C: CharSet> CopyIn for StringAsn1<K, C> {
     fn copy_in(&self, alloc: Global) -> Result<StringAsn1<K, C>, AllocError> {
-        Ok(StringAsn1::from(self.string.clone(alloc)?))
+        self.clone(alloc)
     }
 }
 

@@ -1,23 +1,25 @@
 -- The contents octets of a set that a test decides, and the tests of the sets.
-use Rattle.std.proofs.Common.{◌≡◌, ℕ, ◌<◌, ◌⊎◌, Bool, true, false, cond, ltb, leb, eqb, List, Ok, Err, refl, sym, ap, subst, ◌∙◌}
-use Rattle.std.specs.Prelude.{◌||◌, codes}
+use Rattle.std.proofs.Common.{◌≡◌, ℕ, ◌+◌, ◌*◌, ◌/◌, ◌%◌, ◌<◌, ◌⊎◌, Bool, true, false, cond, ltb, leb, eqb, List, [], ◌∷◌, All, Ok, Err, refl, sym, ap, subst, ◌∙◌, arith}
+use Rattle.std.specs.Prelude.{◌||◌, ◌&&◌, codes}
 use Rattle.std.specs.Bool.{Decides}
 use Rattle.std.specs.List.{list_all, list_any}
 use Rattle.std.specs.Cmp.{nat_eq_equiv}
 use Rattle.std.specs.Int.{is_in_range, IsInRange}
 use Rattle.std.specs.Str.{IsUtf8, is_utf8}
 use Rattle.std.proofs.lemmas.Bool.Decides.{Decides-by_and, Decides-ltb, Decides-eqb, Decides-and, Decides-or}
-use Rattle.std.proofs.lemmas.Bool.{eqb-true, leb-true, le-leb}
+use Rattle.std.proofs.lemmas.Bool.{eqb-true, leb-true, le-leb, ltb-true, lt-ltb, and_parts}
+use Rattle.std.proofs.lemmas.List.Elements.{All-nil, All-cons, All-head, All-tail}
 use Rattle.std.proofs.lemmas.Map.Views.{Contains-from_any, list_any-from_Contains}
 use Rattle.std.proofs.lemmas.Str.{IsUtf8-from_is_utf8, is_utf8-from_IsUtf8}
 use Rattle.picky_asn1_tag.specs.declared.tag.Tag.{Tag}
+use Rattle.picky_asn1_text.specs.Bmp.{IsBmp, IsBmpCharacter, two_bytes_each}
 use Rattle.picky_asn1_text.specs.CharSets.{IsIa5, IsNumeric, IsPrintable, IsDigit, IsCapitalLetter, IsSmallLetter, IsPrintableSign}
 use Rattle.picky_der.specs.declared.fault.DerError.TheVariants.{BadValue}
 use Rattle.picky_der.specs.Form.{Readable, Writable, Tagged}
 use Rattle.picky_der.specs.Primitive.{Decodes, primitive_form}
 use Rattle.picky_der.specs.laws.Steps.{need_ok, ok_is}
 use Rattle.picky_der.specs.laws.Primitives.{primitive_readable, primitive_writable, primitive_tagged}
-use Rattle.picky_asn1_simple.specs.Sets.{tested_of, tested_contents, is_ia5, is_numeric, is_printable_octet, is_printable}
+use Rattle.picky_asn1_simple.specs.Sets.{tested_of, tested_contents, is_ia5, is_numeric, is_printable_octet, is_printable, is_bmp_character, is_bmp}
 
 module _ (InSet : List ℕ → Type 0) (test : List ℕ → Bool) (decides : (octets : List ℕ) → Decides (test octets) (InSet octets)) where
   tested_done : (octets x : List ℕ) → tested_of test octets ≡ Ok x → InSet x × (octets ≡ x)
@@ -86,3 +88,33 @@ printable_octet b =
 
 pub printable_decides : (octets : List ℕ) → Decides (is_printable octets) (IsPrintable octets)
 printable_decides octets = Decides-by_and is_printable_octet (λ b. IsCapitalLetter b ⊎ IsSmallLetter b ⊎ IsDigit b ⊎ IsPrintableSign b) (list_all is_printable_octet) printable_octet refl (λ _ _. refl) octets
+
+bmp_character : (c : ℕ) → Decides (is_bmp_character c) (IsBmpCharacter c)
+bmp_character c = Decides-or (ltb c 0xD800) (is_in_range 0xE000 0xFFFF c) (Decides-ltb c 0xD800) (range_decides 0xE000 0xFFFF c)
+
+-- the two octets of a number
+pair_of : (high low : ℕ) → low < 256 → ((high * 256 + low) / 256 ≡ high) × ((high * 256 + low) % 256 ≡ low)
+pair_of high low h = (omega (arith, h), omega (arith, h))
+
+bmp_pair : (high low : ℕ) (rest : List ℕ) → low < 256 → IsBmpCharacter (high * 256 + low) → IsBmp rest → IsBmp (high ∷ low ∷ rest)
+bmp_pair high low rest h c b =
+    let p = pair_of high low h in
+    ((high * 256 + low) ∷ b.0, All-cons IsBmpCharacter (high * 256 + low) b.0 c b.1, rw (p.0, p.1, b.2) refl)
+
+bmp_from_test : (octets : List ℕ) → is_bmp octets ≡ true → IsBmp octets
+bmp_from_test [] h = ([], All-nil IsBmpCharacter, refl)
+bmp_from_test (high ∷ []) h = absurd cc
+bmp_from_test (high ∷ low ∷ rest) h =
+    let both = and_parts (ltb low 0x100 && is_bmp_character (high * 0x100 + low)) (is_bmp rest) h in
+    let pair = and_parts (ltb low 0x100) (is_bmp_character (high * 0x100 + low)) both.0 in
+    bmp_pair high low rest (ltb-true low 0x100 pair.0) ((bmp_character (high * 0x100 + low)).0 pair.1) (bmp_from_test rest both.1)
+
+bmp_test_of : (characters : List ℕ) → All IsBmpCharacter characters → is_bmp (two_bytes_each characters) ≡ true
+bmp_test_of [] all = refl
+bmp_test_of (c ∷ cs) all =
+    let small : c % 256 < 256 = omega arith in
+    let whole : c / 256 * 256 + c % 256 ≡ c = omega arith in
+    rw (lt-ltb (c % 256) 256 small, whole, (bmp_character c).1 (All-head IsBmpCharacter c cs all), bmp_test_of cs (All-tail IsBmpCharacter c cs all)) refl
+
+pub bmp_decides : (octets : List ℕ) → Decides (is_bmp octets) (IsBmp octets)
+bmp_decides octets = (bmp_from_test octets, λ h. subst (λ x. is_bmp x ≡ true) (sym h.2) (bmp_test_of h.0 h.1))
