@@ -1,2 +1,3 @@
 -- What the laws of the simple wrappers rest on.
 pub mod Sets
+pub mod Times
