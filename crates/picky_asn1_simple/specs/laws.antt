@@ -1,3 +1,4 @@
 -- What the laws of the simple wrappers rest on.
 pub mod Bits
 pub mod Sets
+pub mod Times

@@ -1,10 +1,11 @@
-//! Strings of ASN.1 under their tags, as DER: [`StringAsn1`], restricted strings with a name for each kind, and
-//! [`BitStringAsn1`].
+//! Simple values of ASN.1 under their tags, as DER: [`StringAsn1`], restricted strings with a name for each kind,
+//! [`BitStringAsn1`], and [`DateAsn1`] with [`UtcTimeAsn1`] and [`GeneralizedTimeAsn1`].
 #![tactic(auto)]
 
 mod bit_string;
 mod kinds;
 mod string;
+mod time;
 
 pub use bit_string::BitStringAsn1;
 pub use kinds::{
@@ -12,3 +13,4 @@ pub use kinds::{
     Utf8StringAsn1,
 };
 pub use string::{DecidedSet, StringAsn1};
+pub use time::{DateAsn1, DecidedTime, GeneralizedTimeAsn1, UtcTimeAsn1};
