@@ -1,4 +1,5 @@
 pub mod Form
+pub mod Identifier
 pub mod Length
 pub mod Natural
 pub mod Plain

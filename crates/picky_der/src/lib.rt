@@ -3,6 +3,7 @@
 
 mod fault;
 mod form;
+mod identifier;
 mod integer;
 mod natural;
 mod octet_string;
