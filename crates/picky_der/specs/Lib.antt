@@ -1,3 +1,4 @@
+pub mod Algorithm
 pub mod Form
 pub mod Identifier
 pub mod Length
