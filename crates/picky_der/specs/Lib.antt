@@ -1,4 +1,6 @@
+pub mod Algorithm
 pub mod Form
+pub mod Identifier
 pub mod Length
 pub mod Natural
 pub mod Plain

@@ -1,5 +1,7 @@
 -- What the laws of the types rest on.
+pub mod Algorithm
 pub mod Headers
+pub mod Identifier
 pub mod Lengths
 pub mod Natural
 pub mod Plain

@@ -1,8 +1,10 @@
 //! DER (X.690): lengths, a reader, and the traits of values that are written and read.
 #![tactic(auto)]
 
+mod algorithm;
 mod fault;
 mod form;
+mod identifier;
 mod integer;
 mod natural;
 mod octet_string;
@@ -11,6 +13,7 @@ mod raw;
 mod reader;
 mod writing;
 
+pub use algorithm::AlgorithmIdentifier;
 pub use fault::DerError;
 pub use form::{DerForm, DerRead, DerTagged, DerWrite, from_bytes, to_vec};
 pub use raw::Asn1RawDer;
