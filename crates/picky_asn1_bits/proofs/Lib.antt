@@ -3,3 +3,4 @@ pub mod Numbers
 pub mod OneBit
 pub mod Orders
 pub mod Resize
+pub mod Shortest

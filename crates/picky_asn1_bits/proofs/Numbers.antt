@@ -17,10 +17,10 @@ unsigned_lt (b ∷ bs) small =
     rw (pow-suc 256 (length bs)) (mul-add-lt b (256 ^ length bs) (unsigned_of bs) 256 (small 0) (unsigned_lt bs (λ i. small (suc i))))
 
 -- the number by the test of the first byte
-int_of_low : (b : ℕ) (bs : List ℕ) → b < 128 → int_of (b ∷ bs) ≡ pos (unsigned_of (b ∷ bs))
+pub int_of_low : (b : ℕ) (bs : List ℕ) → b < 128 → int_of (b ∷ bs) ≡ pos (unsigned_of (b ∷ bs))
 int_of_low b bs lt = rw (lt-ltb b 128 lt) refl
 
-int_of_high : (b : ℕ) (bs : List ℕ) → 128 ≤ b → int_of (b ∷ bs) ≡ pos (unsigned_of (b ∷ bs)) -ℤ pos (256 ^ length (b ∷ bs))
+pub int_of_high : (b : ℕ) (bs : List ℕ) → 128 ≤ b → int_of (b ∷ bs) ≡ pos (unsigned_of (b ∷ bs)) -ℤ pos (256 ^ length (b ∷ bs))
 int_of_high b bs le = rw (le-ltb b 128 le) refl
 
 -- the number is at least zero exactly where the first byte is below 128

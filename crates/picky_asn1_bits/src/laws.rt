@@ -1,5 +1,5 @@
 //! What is proved of bit strings, integers and octet strings beside their calls.
-ghost use Rattle.std.specs.Prelude.{◌≡◌, ◌≢◌, ◌↔◌, pos, [], ◌∷◌, length, Some, IsTrue};
+ghost use Rattle.std.specs.Prelude.{◌≡◌, ◌≢◌, ◌↔◌, ℕ, ◌<◌, ◌≤◌, List, [], ◌∷◌, length, All, pos, Some, IsTrue};
 ghost use Rattle.std.specs.declared.cmp.Ordering.TheVariants.{Equal};
 ghost use Rattle.picky_asn1_bits.specs.Bits.{unused, payload, with_payload};
 ghost use Rattle.picky_asn1_bits.specs.Integer.{int_of, unsigned_of, unsigned_spelling, IsShortest};
@@ -14,6 +14,15 @@ use std::hash::Hash;
 pub fn unsigned_integers_keep_their_number(bytes: &[u8])
     ensures number { int_of (unsigned_spelling bytes.now) ≡ pos (unsigned_of bytes.now) }
     ensures shortest { bytes.now ≢ [] → IsShortest (unsigned_spelling bytes.now) }
+{}
+
+/// A shortest spelling is the only one of its number, and no spelling of the number in one byte or more has fewer
+/// bytes (X.690 sections 8.3.1 and 8.3.2).
+pub fn shortest_integers_are_unique()
+    ensures one { (s t : List ℕ) → All (λ b. b < 256) s → All (λ b. b < 256) t → IsShortest s → IsShortest t
+        → int_of s ≡ int_of t → s ≡ t }
+    ensures fewest { (s t : List ℕ) → All (λ b. b < 256) s → All (λ b. b < 256) t → IsShortest s → t ≢ []
+        → int_of s ≡ int_of t → length s ≤ length t }
 {}
 
 /// Bytes of the payload's length, written through `BitString::payload_view_mut`, are the payload, behind the same
