@@ -1,9 +1,10 @@
 //! Simple values of ASN.1 under their tags, as DER: [`StringAsn1`], restricted strings with a name for each kind,
-//! [`BitStringAsn1`], and [`DateAsn1`] with [`UtcTimeAsn1`] and [`GeneralizedTimeAsn1`].
+//! [`BitStringAsn1`], [`ObjectIdentifierAsn1`], and [`DateAsn1`] with [`UtcTimeAsn1`] and [`GeneralizedTimeAsn1`].
 #![tactic(auto)]
 
 mod bit_string;
 mod kinds;
+mod object_identifier;
 mod string;
 mod time;
 
@@ -12,5 +13,6 @@ pub use kinds::{
     BmpStringAsn1, GeneralStringAsn1, Ia5StringAsn1, NumericStringAsn1, PrintableStringAsn1,
     Utf8StringAsn1,
 };
+pub use object_identifier::ObjectIdentifierAsn1;
 pub use string::{DecidedSet, StringAsn1};
 pub use time::{DateAsn1, DecidedTime, GeneralizedTimeAsn1, UtcTimeAsn1};

@@ -92,9 +92,18 @@ impl<K: Asn1Type, TR: TimeRepr> Deref for DateAsn1<K, TR> {
 }
 
 impl<K: Asn1Type, TR: TimeRepr> DerefMut for DateAsn1<K, TR> {
+    ghost use Rattle.std.specs.Prelude.{◌≡◌};
+    ghost use Rattle.std.specs.Borrow.{Lends, sem};
+    ghost use Rattle.picky_asn1_date.specs.contracts.date.Date as inner;
+    ghost use Rattle.picky_asn1_simple.specs.contracts.time.DateAsn1.{the_row};
+
     ghost deref_mut_gives = { λ wrapped date. date ≡ wrapped.date };
 
-    fn deref_mut(&mut self) -> &mut Date<TR> {
+    /// The date, to be changed in place.
+    fn deref_mut(&mut self) -> &mut Date<TR>
+        ensures* writes_back { sem 𝓛 (Lends (the_row K.row TR.row) (inner.the_row TR.row) self.entry result (λ date. record self.old { date = date })) }
+        ensures shows { result.now ≡ self.old.date }
+    {
         &mut self.date
     }
 }
