@@ -1,9 +1,9 @@
 -- `==` tells values of different meaning apart.
 use Rattle.std.proofs.Common.{◌≡◌, ℕ, Bool, true, false, ◌&&◌, eqb, List, [], ◌∷◌, length, refl, sym, ap, ◌∙◌}
-use Rattle.std.specs.Prelude.{◌↔◌, IsTrue, map}
+use Rattle.std.specs.Prelude.{◌↔◌, IsTrue, map, nat_eq}
 use Rattle.std.specs.Cmp.{first_so, second_so}
-use Rattle.std.specs.Cmp.Lexicographic.{pointwise}
-use Rattle.std.proofs.Math.Bool.{beq}
+use Rattle.std.specs.Cmp.Lexicographic.{pointwise, bytes_decides}
+use Rattle.std.proofs.Math.Bool.{beq, and-true}
 use Rattle.std.proofs.lemmas.Bool.{eqb-true, eq-eqb}
 
 pub nat_equal : (x y : ℕ) → IsTrue (eqb x y) ↔ (x ≡ y)
@@ -14,6 +14,13 @@ bool_equal true true = (λ _. refl, λ _. refl)
 bool_equal false false = (λ _. refl, λ _. refl)
 bool_equal true false = (λ h. absurd cc, λ e. absurd cc)
 bool_equal false true = (λ h. absurd cc, λ e. absurd cc)
+
+-- bytes beside marks that hold nothing
+pub strings_equal : (x y : List ℕ) → IsTrue ((pointwise nat_eq x y && true) && true) ↔ (x ≡ y)
+strings_equal x y =
+    let bytes = bytes_decides x y in
+    let alone : ((pointwise nat_eq x y && true) && true) ≡ pointwise nat_eq x y = and-true (pointwise nat_eq x y && true) ∙ and-true (pointwise nat_eq x y) in
+    (λ h. bytes.0 (sym alone ∙ h), λ e. alone ∙ bytes.1 e)
 
 -- the empty list is the one default of lists
 pub one_default_list : {X M : Type 0} (meaning : X → M) (xs ys : List X) → xs ≡ [] → ((ys ≡ []) ↔ (map meaning xs ≡ map meaning ys))
