@@ -59,9 +59,18 @@ impl<T: Asn1Value> Asn1Value for OctetStringAsn1Container<T> {
     ghost meaning = { λ container. T.meaning container.0 };
 }
 
+impl<T: CopyIn> OctetStringAsn1Container<T> {
+    /// A copy, in memory of its own: the value in it means the same.
+    pub fn clone(&self, alloc: Global) -> Result<OctetStringAsn1Container<T>, AllocError>
+        ensures { IfOk result (λ copy. T.meaning copy.0 ≡ T.meaning self.now.0) }
+    {
+        Ok(OctetStringAsn1Container(self.0.copy_in(alloc)?))
+    }
+}
+
 impl<T: CopyIn> CopyIn for OctetStringAsn1Container<T> {
     fn copy_in(&self, alloc: Global) -> Result<OctetStringAsn1Container<T>, AllocError> {
-        Ok(OctetStringAsn1Container(self.0.copy_in(alloc)?))
+        self.clone(alloc)
     }
 }
 
@@ -160,9 +169,18 @@ impl<T: Asn1Value> Asn1Value for BitStringAsn1Container<T> {
     ghost meaning = { λ container. T.meaning container.0 };
 }
 
+impl<T: CopyIn> BitStringAsn1Container<T> {
+    /// A copy, in memory of its own: the value in it means the same.
+    pub fn clone(&self, alloc: Global) -> Result<BitStringAsn1Container<T>, AllocError>
+        ensures { IfOk result (λ copy. T.meaning copy.0 ≡ T.meaning self.now.0) }
+    {
+        Ok(BitStringAsn1Container(self.0.copy_in(alloc)?))
+    }
+}
+
 impl<T: CopyIn> CopyIn for BitStringAsn1Container<T> {
     fn copy_in(&self, alloc: Global) -> Result<BitStringAsn1Container<T>, AllocError> {
-        Ok(BitStringAsn1Container(self.0.copy_in(alloc)?))
+        self.clone(alloc)
     }
 }
 

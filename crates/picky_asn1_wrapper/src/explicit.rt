@@ -55,9 +55,18 @@ impl<const N: u8, T: Asn1Value> Asn1Value for ExplicitContextTag<N, T> {
     ghost meaning = { λ tagged. T.meaning tagged.0 };
 }
 
+impl<const N: u8, T: CopyIn> ExplicitContextTag<N, T> {
+    /// A copy, in memory of its own: the value in it means the same.
+    pub fn clone(&self, alloc: Global) -> Result<ExplicitContextTag<N, T>, AllocError>
+        ensures { IfOk result (λ copy. T.meaning copy.0 ≡ T.meaning self.now.0) }
+    {
+        Ok(ExplicitContextTag(self.0.copy_in(alloc)?))
+    }
+}
+
 impl<const N: u8, T: CopyIn> CopyIn for ExplicitContextTag<N, T> {
     fn copy_in(&self, alloc: Global) -> Result<ExplicitContextTag<N, T>, AllocError> {
-        Ok(ExplicitContextTag(self.0.copy_in(alloc)?))
+        self.clone(alloc)
     }
 }
 

@@ -114,9 +114,18 @@ impl<T: Asn1Value> Empty for Asn1SequenceOf<T> {
     ghost one_default = { one_default_list T.meaning };
 }
 
+impl<T: CopyIn + Drop> Asn1SequenceOf<T> {
+    /// A copy, in memory of its own: its items mean the same, one after another.
+    pub fn clone(&self, alloc: Global) -> Result<Asn1SequenceOf<T>, AllocError>
+        ensures { IfOk result (λ copy. map T.meaning copy ≡ map T.meaning self.now) }
+    {
+        Ok(Asn1SequenceOf(copy_items(alloc, &self.0)?))
+    }
+}
+
 impl<T: CopyIn + Drop> CopyIn for Asn1SequenceOf<T> {
     fn copy_in(&self, alloc: Global) -> Result<Asn1SequenceOf<T>, AllocError> {
-        Ok(Asn1SequenceOf(copy_items(alloc, &self.0)?))
+        self.clone(alloc)
     }
 }
 
@@ -260,9 +269,18 @@ impl<T: Asn1Value> Empty for Asn1SetOf<T> {
     ghost one_default = { one_default_list T.meaning };
 }
 
+impl<T: CopyIn + Drop> Asn1SetOf<T> {
+    /// A copy, in memory of its own: its items mean the same, one after another.
+    pub fn clone(&self, alloc: Global) -> Result<Asn1SetOf<T>, AllocError>
+        ensures { IfOk result (λ copy. map T.meaning copy ≡ map T.meaning self.now) }
+    {
+        Ok(Asn1SetOf(copy_items(alloc, &self.0)?))
+    }
+}
+
 impl<T: CopyIn + Drop> CopyIn for Asn1SetOf<T> {
     fn copy_in(&self, alloc: Global) -> Result<Asn1SetOf<T>, AllocError> {
-        Ok(Asn1SetOf(copy_items(alloc, &self.0)?))
+        self.clone(alloc)
     }
 }
 

@@ -44,9 +44,18 @@ impl<T: Asn1Value> Asn1Value for Optional<T> {
     ghost meaning = { λ optional. T.meaning optional.0 };
 }
 
+impl<T: CopyIn> Optional<T> {
+    /// A copy, in memory of its own: the value in it means the same.
+    pub fn clone(&self, alloc: Global) -> Result<Optional<T>, AllocError>
+        ensures { IfOk result (λ copy. T.meaning copy.0 ≡ T.meaning self.now.0) }
+    {
+        Ok(Optional(self.0.copy_in(alloc)?))
+    }
+}
+
 impl<T: CopyIn> CopyIn for Optional<T> {
     fn copy_in(&self, alloc: Global) -> Result<Optional<T>, AllocError> {
-        Ok(Optional(self.0.copy_in(alloc)?))
+        self.clone(alloc)
     }
 }
 
