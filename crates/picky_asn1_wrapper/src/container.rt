@@ -46,9 +46,17 @@ impl<T> Deref for OctetStringAsn1Container<T> {
 }
 
 impl<T> DerefMut for OctetStringAsn1Container<T> {
+    ghost use Rattle.std.specs.Prelude.{◌≡◌};
+    ghost use Rattle.std.specs.Borrow.{Lends, sem};
+    ghost use Rattle.picky_asn1_wrapper.specs.contracts.container.OctetStringAsn1Container.{the_row};
+
     ghost deref_mut_gives = { λ container value. value ≡ container.0 };
 
-    fn deref_mut(&mut self) -> &mut T {
+    /// The value, to be changed in place.
+    fn deref_mut(&mut self) -> &mut T
+        ensures* writes_back { sem 𝓛 (Lends (the_row T.row) T.row self.entry result (λ value. record { 0 = value })) }
+        ensures shows { result.now ≡ self.old.0 }
+    {
         &mut self.0
     }
 }
@@ -156,9 +164,17 @@ impl<T> Deref for BitStringAsn1Container<T> {
 }
 
 impl<T> DerefMut for BitStringAsn1Container<T> {
+    ghost use Rattle.std.specs.Prelude.{◌≡◌};
+    ghost use Rattle.std.specs.Borrow.{Lends, sem};
+    ghost use Rattle.picky_asn1_wrapper.specs.contracts.container.BitStringAsn1Container.{the_row};
+
     ghost deref_mut_gives = { λ container value. value ≡ container.0 };
 
-    fn deref_mut(&mut self) -> &mut T {
+    /// The value, to be changed in place.
+    fn deref_mut(&mut self) -> &mut T
+        ensures* writes_back { sem 𝓛 (Lends (the_row T.row) T.row self.entry result (λ value. record { 0 = value })) }
+        ensures shows { result.now ≡ self.old.0 }
+    {
         &mut self.0
     }
 }

@@ -45,9 +45,17 @@ impl<const N: u8, T> Deref for ImplicitContextTag<N, T> {
 }
 
 impl<const N: u8, T> DerefMut for ImplicitContextTag<N, T> {
+    ghost use Rattle.std.specs.Prelude.{◌≡◌};
+    ghost use Rattle.std.specs.Borrow.{Lends, sem};
+    ghost use Rattle.picky_asn1_wrapper.specs.contracts.implicit.ImplicitContextTag.{the_row};
+
     ghost deref_mut_gives = { λ tagged value. value ≡ tagged.0 };
 
-    fn deref_mut(&mut self) -> &mut T {
+    /// The value, to be changed in place.
+    fn deref_mut(&mut self) -> &mut T
+        ensures* writes_back { sem 𝓛 (Lends (the_row N.row T.row) T.row self.entry result (λ value. record { 0 = value })) }
+        ensures shows { result.now ≡ self.old.0 }
+    {
         &mut self.0
     }
 }
