@@ -1,5 +1,5 @@
 -- One value of a type as the contents of another value: explicit tags (X.690 section 8.14.2) and containers (own).
-use Rattle.std.specs.Prelude.{◌≡◌, ℕ, ◌+◌, ◌%◌, ◌==◌, List, [], ◌∷◌, Result, Ok}
+use Rattle.std.specs.Prelude.{ℕ, ◌+◌, ◌%◌, ◌==◌, List, ◌∷◌, Result, Ok}
 use Rattle.picky_asn1_tag.specs.declared.tag.Tag.{Tag}
 use Rattle.picky_der.specs.declared.fault.DerError.{DerError}
 use Rattle.picky_der.specs.Reading.{◌>>=◌, nested_at, nested_bits_at, end_at}

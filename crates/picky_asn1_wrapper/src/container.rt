@@ -46,9 +46,17 @@ impl<T> Deref for OctetStringAsn1Container<T> {
 }
 
 impl<T> DerefMut for OctetStringAsn1Container<T> {
+    ghost use Rattle.std.specs.Prelude.{◌≡◌};
+    ghost use Rattle.std.specs.Borrow.{Lends, sem};
+    ghost use Rattle.picky_asn1_wrapper.specs.contracts.container.OctetStringAsn1Container.{the_row};
+
     ghost deref_mut_gives = { λ container value. value ≡ container.0 };
 
-    fn deref_mut(&mut self) -> &mut T {
+    /// The value, to be changed in place.
+    fn deref_mut(&mut self) -> &mut T
+        ensures* writes_back { sem 𝓛 (Lends (the_row T.row) T.row self.entry result (λ value. record { 0 = value })) }
+        ensures shows { result.now ≡ self.old.0 }
+    {
         &mut self.0
     }
 }
@@ -59,9 +67,18 @@ impl<T: Asn1Value> Asn1Value for OctetStringAsn1Container<T> {
     ghost meaning = { λ container. T.meaning container.0 };
 }
 
+impl<T: CopyIn> OctetStringAsn1Container<T> {
+    /// A copy, in memory of its own: the value in it means the same.
+    pub fn clone(&self, alloc: Global) -> Result<OctetStringAsn1Container<T>, AllocError>
+        ensures { IfOk result (λ copy. T.meaning copy.0 ≡ T.meaning self.now.0) }
+    {
+        Ok(OctetStringAsn1Container(self.0.copy_in(alloc)?))
+    }
+}
+
 impl<T: CopyIn> CopyIn for OctetStringAsn1Container<T> {
     fn copy_in(&self, alloc: Global) -> Result<OctetStringAsn1Container<T>, AllocError> {
-        Ok(OctetStringAsn1Container(self.0.copy_in(alloc)?))
+        self.clone(alloc)
     }
 }
 
@@ -147,9 +164,17 @@ impl<T> Deref for BitStringAsn1Container<T> {
 }
 
 impl<T> DerefMut for BitStringAsn1Container<T> {
+    ghost use Rattle.std.specs.Prelude.{◌≡◌};
+    ghost use Rattle.std.specs.Borrow.{Lends, sem};
+    ghost use Rattle.picky_asn1_wrapper.specs.contracts.container.BitStringAsn1Container.{the_row};
+
     ghost deref_mut_gives = { λ container value. value ≡ container.0 };
 
-    fn deref_mut(&mut self) -> &mut T {
+    /// The value, to be changed in place.
+    fn deref_mut(&mut self) -> &mut T
+        ensures* writes_back { sem 𝓛 (Lends (the_row T.row) T.row self.entry result (λ value. record { 0 = value })) }
+        ensures shows { result.now ≡ self.old.0 }
+    {
         &mut self.0
     }
 }
@@ -160,9 +185,18 @@ impl<T: Asn1Value> Asn1Value for BitStringAsn1Container<T> {
     ghost meaning = { λ container. T.meaning container.0 };
 }
 
+impl<T: CopyIn> BitStringAsn1Container<T> {
+    /// A copy, in memory of its own: the value in it means the same.
+    pub fn clone(&self, alloc: Global) -> Result<BitStringAsn1Container<T>, AllocError>
+        ensures { IfOk result (λ copy. T.meaning copy.0 ≡ T.meaning self.now.0) }
+    {
+        Ok(BitStringAsn1Container(self.0.copy_in(alloc)?))
+    }
+}
+
 impl<T: CopyIn> CopyIn for BitStringAsn1Container<T> {
     fn copy_in(&self, alloc: Global) -> Result<BitStringAsn1Container<T>, AllocError> {
-        Ok(BitStringAsn1Container(self.0.copy_in(alloc)?))
+        self.clone(alloc)
     }
 }
 

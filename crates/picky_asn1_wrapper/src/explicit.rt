@@ -42,9 +42,17 @@ impl<const N: u8, T> Deref for ExplicitContextTag<N, T> {
 }
 
 impl<const N: u8, T> DerefMut for ExplicitContextTag<N, T> {
+    ghost use Rattle.std.specs.Prelude.{◌≡◌};
+    ghost use Rattle.std.specs.Borrow.{Lends, sem};
+    ghost use Rattle.picky_asn1_wrapper.specs.contracts.explicit.ExplicitContextTag.{the_row};
+
     ghost deref_mut_gives = { λ tagged value. value ≡ tagged.0 };
 
-    fn deref_mut(&mut self) -> &mut T {
+    /// The value, to be changed in place.
+    fn deref_mut(&mut self) -> &mut T
+        ensures* writes_back { sem 𝓛 (Lends (the_row N.row T.row) T.row self.entry result (λ value. record { 0 = value })) }
+        ensures shows { result.now ≡ self.old.0 }
+    {
         &mut self.0
     }
 }
@@ -55,9 +63,18 @@ impl<const N: u8, T: Asn1Value> Asn1Value for ExplicitContextTag<N, T> {
     ghost meaning = { λ tagged. T.meaning tagged.0 };
 }
 
+impl<const N: u8, T: CopyIn> ExplicitContextTag<N, T> {
+    /// A copy, in memory of its own: the value in it means the same.
+    pub fn clone(&self, alloc: Global) -> Result<ExplicitContextTag<N, T>, AllocError>
+        ensures { IfOk result (λ copy. T.meaning copy.0 ≡ T.meaning self.now.0) }
+    {
+        Ok(ExplicitContextTag(self.0.copy_in(alloc)?))
+    }
+}
+
 impl<const N: u8, T: CopyIn> CopyIn for ExplicitContextTag<N, T> {
     fn copy_in(&self, alloc: Global) -> Result<ExplicitContextTag<N, T>, AllocError> {
-        Ok(ExplicitContextTag(self.0.copy_in(alloc)?))
+        self.clone(alloc)
     }
 }
 

@@ -11,7 +11,8 @@ use std::alloc::{AllocError, Global};
 use std::marker::PhantomData;
 
 /// T's tag with no contents.
-#[derive(Debug, Drop, PartialEq, Eq, PartialOrd, Hash)]
+#[derive(Debug, PartialEq, Eq, PartialOrd, Hash)]
+#[derive_where(Clone, Copy)]
 pub struct HeaderOnly<T: Asn1Type> {
     header: PhantomData<T>,
 }
@@ -43,7 +44,7 @@ impl<T: Asn1Type> Asn1Value for HeaderOnly<T> {
 
 impl<T: Asn1Type> CopyIn for HeaderOnly<T> {
     fn copy_in(&self, _alloc: Global) -> Result<HeaderOnly<T>, AllocError> {
-        Ok(HeaderOnly::new())
+        Ok(*self)
     }
 }
 

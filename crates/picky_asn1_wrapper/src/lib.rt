@@ -8,6 +8,7 @@ mod explicit;
 mod header_only;
 mod implicit;
 mod items;
+pub mod laws;
 mod lists;
 mod optional;
 
@@ -29,3 +30,7 @@ pub use implicit::ImplicitContextTag;
 pub use items::{read_items, write_items};
 pub use lists::{Asn1SequenceOf, Asn1SetOf};
 pub use optional::Optional;
+pub use picky_asn1_simple::{
+    DecidedSet, GeneralStringAsn1, Ia5StringAsn1, NumericStringAsn1, PrintableStringAsn1,
+    StringAsn1, Utf8StringAsn1,
+};

@@ -1,15 +1,17 @@
 // SEQUENCE OF and SET OF.
-ghost use Rattle.std.specs.Prelude.{◌≡◌, List, map, IfOk};
+ghost use Rattle.std.specs.Prelude.{◌≡◌, List, [], map, IfOk};
+ghost use Rattle.std.specs.Cmp.Lexicographic.{pointwise, lists_per, lists_equiv};
 ghost use Rattle.picky_asn1_wrapper.specs.Lists.{list_form, list_at};
+ghost use Rattle.picky_asn1_wrapper.specs.laws.Equal.{one_default_list};
 ghost use Rattle.picky_asn1_wrapper.specs.laws.Lists.{list_readable, list_writable, list_tagged};
 ghost use Rattle.std.proofs.Common.{arith};
 
 use crate::items::{copy_items, read_items, write_items};
-use picky_asn1_tag::{Asn1Type, Asn1Value, CopyIn, Tag};
+use picky_asn1_tag::{Asn1Type, Asn1Value, CopyIn, Empty, Tag};
 use picky_der::{DerError, DerForm, DerRead, DerReader, DerTagged, DerWrite, write_value};
 use std::alloc::{AllocError, Global};
 use std::marker::Model;
-use std::ops::Deref;
+use std::ops::{Deref, DerefMut};
 
 /// A SEQUENCE OF: values of one type in order (X.690 section 8.10). Contracts see it as their list.
 #[derive(Debug, Drop)]
@@ -63,15 +65,67 @@ impl<T> Deref for Asn1SequenceOf<T> {
     }
 }
 
+impl<T> DerefMut for Asn1SequenceOf<T> {
+    ghost use Rattle.std.specs.Prelude.{◌≡◌};
+    ghost use Rattle.std.specs.Borrow.{Lends, sem};
+    ghost use Rattle.picky_asn1_wrapper.specs.Rows.{items_row};
+    ghost use Rattle.picky_asn1_wrapper.specs.contracts.lists.Asn1SequenceOf.{the_row};
+
+    ghost deref_mut_gives = { λ list items. items.items ≡ list };
+
+    /// The vector, to be changed in place.
+    fn deref_mut(&mut self) -> &mut Vec<T>
+        ensures* writes_back { sem 𝓛 (Lends (the_row T.row) (items_row T.row) self.entry result (λ items. items.items)) }
+        ensures shows { result.now.items ≡ self.old }
+    {
+        &mut self.0
+    }
+}
+
+/// Lists are equal where they are as long, and each item equals that at its place.
+impl<T: PartialEq> PartialEq for Asn1SequenceOf<T> {
+    ghost eq = { pointwise T.eq };
+
+    ghost laws = { lists_per T.laws };
+
+    fn eq(&self, other: &Asn1SequenceOf<T>) -> bool {
+        self.0 == other.0
+    }
+}
+
+impl<T: Eq> Eq for Asn1SequenceOf<T> {
+    ghost laws = { lists_equiv T.Eq.laws };
+}
+
 impl<T: Asn1Value> Asn1Value for Asn1SequenceOf<T> {
     ghost Meaning = { List T.Meaning };
 
     ghost meaning = { λ list. map T.meaning list };
 }
 
+/// No items.
+impl<T: Asn1Value> Empty for Asn1SequenceOf<T> {
+    ghost IsDefault = { λ list. list ≡ [] };
+
+    fn empty(alloc: Global) -> Result<Asn1SequenceOf<T>, AllocError> {
+        Ok(Asn1SequenceOf(Vec::new(alloc)))
+    }
+
+    ghost one_default = { one_default_list T.meaning };
+}
+
+impl<T: CopyIn + Drop> Asn1SequenceOf<T> {
+    /// A copy, in memory of its own: its items mean the same, one after another.
+    pub fn clone(&self, alloc: Global) -> Result<Asn1SequenceOf<T>, AllocError>
+        ensures { IfOk result (λ copy. map T.meaning copy ≡ map T.meaning self.now) }
+    {
+        Ok(Asn1SequenceOf(copy_items(alloc, &self.0)?))
+    }
+}
+
 impl<T: CopyIn + Drop> CopyIn for Asn1SequenceOf<T> {
     fn copy_in(&self, alloc: Global) -> Result<Asn1SequenceOf<T>, AllocError> {
-        Ok(Asn1SequenceOf(copy_items(alloc, &self.0)?))
+        self.clone(alloc)
     }
 }
 
@@ -166,15 +220,67 @@ impl<T> Deref for Asn1SetOf<T> {
     }
 }
 
+impl<T> DerefMut for Asn1SetOf<T> {
+    ghost use Rattle.std.specs.Prelude.{◌≡◌};
+    ghost use Rattle.std.specs.Borrow.{Lends, sem};
+    ghost use Rattle.picky_asn1_wrapper.specs.Rows.{items_row};
+    ghost use Rattle.picky_asn1_wrapper.specs.contracts.lists.Asn1SetOf.{the_row};
+
+    ghost deref_mut_gives = { λ list items. items.items ≡ list };
+
+    /// The vector, to be changed in place.
+    fn deref_mut(&mut self) -> &mut Vec<T>
+        ensures* writes_back { sem 𝓛 (Lends (the_row T.row) (items_row T.row) self.entry result (λ items. items.items)) }
+        ensures shows { result.now.items ≡ self.old }
+    {
+        &mut self.0
+    }
+}
+
+/// Lists are equal where they are as long, and each item equals that at its place.
+impl<T: PartialEq> PartialEq for Asn1SetOf<T> {
+    ghost eq = { pointwise T.eq };
+
+    ghost laws = { lists_per T.laws };
+
+    fn eq(&self, other: &Asn1SetOf<T>) -> bool {
+        self.0 == other.0
+    }
+}
+
+impl<T: Eq> Eq for Asn1SetOf<T> {
+    ghost laws = { lists_equiv T.Eq.laws };
+}
+
 impl<T: Asn1Value> Asn1Value for Asn1SetOf<T> {
     ghost Meaning = { List T.Meaning };
 
     ghost meaning = { λ list. map T.meaning list };
 }
 
+/// No items.
+impl<T: Asn1Value> Empty for Asn1SetOf<T> {
+    ghost IsDefault = { λ list. list ≡ [] };
+
+    fn empty(alloc: Global) -> Result<Asn1SetOf<T>, AllocError> {
+        Ok(Asn1SetOf(Vec::new(alloc)))
+    }
+
+    ghost one_default = { one_default_list T.meaning };
+}
+
+impl<T: CopyIn + Drop> Asn1SetOf<T> {
+    /// A copy, in memory of its own: its items mean the same, one after another.
+    pub fn clone(&self, alloc: Global) -> Result<Asn1SetOf<T>, AllocError>
+        ensures { IfOk result (λ copy. map T.meaning copy ≡ map T.meaning self.now) }
+    {
+        Ok(Asn1SetOf(copy_items(alloc, &self.0)?))
+    }
+}
+
 impl<T: CopyIn + Drop> CopyIn for Asn1SetOf<T> {
     fn copy_in(&self, alloc: Global) -> Result<Asn1SetOf<T>, AllocError> {
-        Ok(Asn1SetOf(copy_items(alloc, &self.0)?))
+        self.clone(alloc)
     }
 }
 

@@ -31,9 +31,17 @@ impl<T> Deref for Optional<T> {
 }
 
 impl<T> DerefMut for Optional<T> {
+    ghost use Rattle.std.specs.Prelude.{◌≡◌};
+    ghost use Rattle.std.specs.Borrow.{Lends, sem};
+    ghost use Rattle.picky_asn1_wrapper.specs.contracts.optional.Optional.{the_row};
+
     ghost deref_mut_gives = { λ optional value. value ≡ optional.0 };
 
-    fn deref_mut(&mut self) -> &mut T {
+    /// The value, to be changed in place.
+    fn deref_mut(&mut self) -> &mut T
+        ensures* writes_back { sem 𝓛 (Lends (the_row T.row) T.row self.entry result (λ value. record { 0 = value })) }
+        ensures shows { result.now ≡ self.old.0 }
+    {
         &mut self.0
     }
 }
@@ -44,9 +52,18 @@ impl<T: Asn1Value> Asn1Value for Optional<T> {
     ghost meaning = { λ optional. T.meaning optional.0 };
 }
 
+impl<T: CopyIn> Optional<T> {
+    /// A copy, in memory of its own: the value in it means the same.
+    pub fn clone(&self, alloc: Global) -> Result<Optional<T>, AllocError>
+        ensures { IfOk result (λ copy. T.meaning copy.0 ≡ T.meaning self.now.0) }
+    {
+        Ok(Optional(self.0.copy_in(alloc)?))
+    }
+}
+
 impl<T: CopyIn> CopyIn for Optional<T> {
     fn copy_in(&self, alloc: Global) -> Result<Optional<T>, AllocError> {
-        Ok(Optional(self.0.copy_in(alloc)?))
+        self.clone(alloc)
     }
 }
 

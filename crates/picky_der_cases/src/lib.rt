@@ -8,3 +8,5 @@ mod cases;
 mod table;
 #[cfg(test)]
 mod tests;
+#[cfg(test)]
+mod wrappers;

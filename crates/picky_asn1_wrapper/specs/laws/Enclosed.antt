@@ -1,10 +1,9 @@
 -- The laws of one value in another.
-use Rattle.std.proofs.Common.{◌≡◌, ◌≢◌, ℕ, ◌+◌, ◌%◌, ◌<◌, eqb, List, [], ◌∷◌, ◌++◌, length, Result, Ok, Err, refl, sym, ap, subst, ◌∙◌, arith, inl, inr}
+use Rattle.std.proofs.Common.{◌≡◌, ◌≢◌, ℕ, ◌+◌, ◌%◌, ◌<◌, eqb, List, [], ◌∷◌, ◌++◌, length, Ok, refl, sym, ap, subst, ◌∙◌, arith, inl, inr}
 use Rattle.picky_asn1_tag.specs.declared.tag.Tag.{Tag}
-use Rattle.picky_der.specs.declared.fault.DerError.{DerError}
 use Rattle.picky_der.specs.Length.{IsBytes, TailIsBytes, value_of}
 use Rattle.picky_der.specs.Reading.{◌>>=◌, nested_at, nested_bits_at, end_at}
-use Rattle.picky_der.specs.Form.{Form, Readable, Writable, Tagged, IsValue, IsOneValue, BeginsBy, Takes, GivesOrTooDeep}
+use Rattle.picky_der.specs.Form.{Form, Readable, Writable, Tagged, IsValue, Takes, GivesOrTooDeep}
 use Rattle.picky_der.specs.laws.Steps.{ok_is, bind_ok, pair_fst, pair_snd}
 use Rattle.picky_der.specs.laws.Lengths.{IsBytes-rest, TailIsBytes-of}
 use Rattle.picky_der.specs.laws.Headers.{IsValue-same, IsBytes-contents, BeginsBy-value, nested_again, nested_takes, nested_shorter, nested_bits_again, nested_bits_takes, nested_bits_shorter, end_takes, end_again, eqb_same}

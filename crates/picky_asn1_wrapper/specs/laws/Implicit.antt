@@ -1,15 +1,14 @@
 -- The laws of one value under another tag.
-use Rattle.std.proofs.Common.{◌≡◌, ◌≢◌, ℕ, ◌+◌, ◌%◌, ◌<◌, true, eqb, List, [], ◌∷◌, ◌++◌, length, drop, Result, Ok, Err, refl, sym, ap, subst, ◌∙◌, arith, inl, inr}
+use Rattle.std.proofs.Common.{◌≡◌, ◌≢◌, ℕ, ◌%◌, ◌<◌, eqb, List, [], ◌∷◌, ◌++◌, length, drop, Ok, refl, sym, ap, subst, ◌∙◌, arith, inl, inr}
 use Rattle.std.proofs.lemmas.Bool.{eqb-true}
-use Rattle.std.proofs.lemmas.List.{append-nil, append_cancel_left}
+use Rattle.std.proofs.lemmas.List.{append-nil}
 use Rattle.picky_asn1_tag.specs.declared.tag.Tag.{Tag}
-use Rattle.picky_der.specs.declared.fault.DerError.{DerError}
 use Rattle.picky_der.specs.Length.{TailIsBytes, length_of, value_of}
 use Rattle.picky_der.specs.Reading.{◌>>=◌, value_at, raw_at}
 use Rattle.picky_der.specs.Form.{Form, Readable, Writable, Appends, Tagged, IsValue, IsOneValue, BeginsBy, Takes, GivesOrTooDeep}
 use Rattle.picky_der.specs.laws.Steps.{ok_is, bind_ok, pair_fst, pair_snd}
 use Rattle.picky_der.specs.laws.Lengths.{IsBytes-front}
-use Rattle.picky_der.specs.laws.Headers.{IsValue-same, IsValue-again, BeginsBy-value, value_takes, value_shorter, raw_again, eqb_same}
+use Rattle.picky_der.specs.laws.Headers.{IsValue-same, IsValue-again, value_takes, value_shorter, raw_again, eqb_same}
 use Rattle.picky_der.specs.laws.Whole.{again_alone}
 use Rattle.picky_asn1_wrapper.specs.Implicit.{implicit_at, SpellsImplicit, implicit_form}
 

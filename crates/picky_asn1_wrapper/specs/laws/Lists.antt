@@ -1,14 +1,11 @@
 -- The laws of SEQUENCE OF and SET OF.
-use Rattle.std.proofs.Common.{◌≡◌, ◌≢◌, ℕ, zero, suc, ◌+◌, ◌-◌, ◌%◌, ◌<◌, ◌≤◌, true, eqb, ◌⊎◌, List, [], ◌∷◌, ◌++◌, length, take, get_or, Result, Ok, Err, refl, sym, ap, subst, ◌∙◌, append_assoc, arith, inl, inr}
-use Rattle.std.specs.Prelude.{map}
-use Rattle.std.proofs.lemmas.List.{length-append, append_cancel_left, append-nil, take_more, map-append}
+use Rattle.std.proofs.Common.{◌≡◌, ℕ, zero, suc, ◌+◌, ◌<◌, ◌≤◌, eqb, List, [], ◌∷◌, ◌++◌, length, Ok, refl, sym, ap, subst, ◌∙◌, arith, inl, inr}
+use Rattle.std.proofs.lemmas.List.{length-append, append_cancel_left}
 use Rattle.picky_asn1_tag.specs.declared.tag.Tag.{Tag}
-use Rattle.picky_der.specs.declared.fault.DerError.{DerError}
-use Rattle.picky_der.specs.declared.fault.DerError.TheVariants.{Truncated, WrongTag, BadLength, BadValue, TrailingBytes, TooDeep, OutOfMemory}
 use Rattle.picky_der.specs.Length.{IsBytes, TailIsBytes, value_of}
 use Rattle.picky_der.specs.Reading.{◌>>=◌, nested_at}
-use Rattle.picky_der.specs.Form.{Form, Readable, Writable, Tagged, IsValue, IsOneValue, BeginsBy, Takes, GivesOrTooDeep}
-use Rattle.picky_der.specs.laws.Steps.{ok_is, bind_ok, pair_fst, pair_snd}
+use Rattle.picky_der.specs.Form.{Form, Readable, Writable, Tagged, IsValue, BeginsBy, Takes, GivesOrTooDeep}
+use Rattle.picky_der.specs.laws.Steps.{ok_is, bind_ok, pair_snd}
 use Rattle.picky_der.specs.laws.Lengths.{IsBytes-after, TailIsBytes-of}
 use Rattle.picky_der.specs.laws.Headers.{IsValue-same, IsBytes-contents, BeginsBy-value, nested_again, nested_takes, nested_shorter, eqb_same}
 use Rattle.picky_asn1_wrapper.specs.Lists.{SpellsAll, AllFormed, SomeRefused, items_at, list_at, SpellsList, list_form}

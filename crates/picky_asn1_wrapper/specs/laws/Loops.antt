@@ -1,10 +1,9 @@
 -- Values one after another, part of the way through.
 use Rattle.std.proofs.Common.{◌≡◌, ◌≢◌, ℕ, zero, suc, ◌+◌, ◌-◌, ◌<◌, ◌≤◌, List, [], ◌∷◌, ◌++◌, length, take, get_or, Result, Ok, Err, refl, sym, ap, subst, ◌∙◌, append_assoc, arith, inl, inr}
 use Rattle.std.specs.Prelude.{map}
-use Rattle.std.proofs.lemmas.List.{append-nil, length-append, length-map, take_more, map-append}
+use Rattle.std.proofs.lemmas.List.{append-nil, length-append, take_more, map-append}
 use Rattle.picky_der.specs.declared.fault.DerError.{DerError}
-use Rattle.picky_der.specs.declared.fault.DerError.TheVariants.{Truncated}
-use Rattle.picky_der.specs.Reading.{◌>>=◌, Fails}
+use Rattle.picky_der.specs.Reading.{◌>>=◌}
 use Rattle.picky_asn1_wrapper.specs.Lists.{SpellsAll, SomeRefused, items_at}
 
 -- the values so far, and those that reading gives

@@ -1,0 +1,8 @@
+-- A vector of items as the logic holds it, for the clause on what a `&mut` into a list lends (own).
+use Rattle.std.specs.Borrow.{RattleType}
+use Rattle.std.specs.contracts.alloc.Global as global
+use Rattle.std.specs.contracts.vec.Vec as vec
+use Rattle.std.specs.contracts.impls.GlobalAllocator.TheImpl.{ghosts}
+
+abbrev pub items_row : RattleType → RattleType
+items_row item = vec.the_row item global.the_row ghosts

@@ -1,0 +1,123 @@
+//! What is proved of wrappers beside their calls.
+ghost use Rattle.std.specs.Prelude.{◌≡◌, ◌↔◌, Some, IsTrue, map};
+ghost use Rattle.std.specs.Cmp.Lexicographic.{pointwise};
+ghost use Rattle.std.specs.declared.cmp.Ordering.TheVariants.{Equal};
+
+use crate::container::{BitStringAsn1Container, OctetStringAsn1Container};
+use crate::equal_meaning::EqualMeaning;
+use crate::explicit::ExplicitContextTag;
+use crate::header_only::HeaderOnly;
+use crate::implicit::ImplicitContextTag;
+use crate::lists::{Asn1SequenceOf, Asn1SetOf};
+use crate::optional::Optional;
+use picky_asn1_tag::Asn1Type;
+use std::hash::Hash;
+
+/// Values of a type with `EqualMeaning` are equal exactly where they mean the same.
+pub fn equal_values_mean_the_same<T: EqualMeaning>(value: &T, other: &T)
+    ensures { IsTrue (T.eq value.now other.now) ↔ (T.meaning value.now ≡ T.meaning other.now) }
+{}
+
+/// All headers of a type are equal. They hash equally, and order and equality agree.
+pub fn headers_compare<T: Asn1Type + PartialOrd + Hash>(
+    header: &HeaderOnly<T>,
+    other: &HeaderOnly<T>,
+)
+    ensures one { IsTrue (⟦<HeaderOnly<T> as PartialEq>⟧.eq header.now other.now) }
+    ensures hash { IsTrue (⟦<HeaderOnly<T> as PartialEq>⟧.eq header.now other.now)
+        → ⟦<HeaderOnly<T> as Hash>⟧.hash_input header.now ≡ ⟦<HeaderOnly<T> as Hash>⟧.hash_input other.now }
+    ensures order { IsTrue (⟦<HeaderOnly<T> as PartialEq>⟧.eq header.now other.now)
+        ↔ (⟦<HeaderOnly<T> as PartialOrd>⟧.partial_cmp header.now other.now ≡ Some Equal) }
+{}
+
+/// Octet string containers are equal where the values in them are. Equal ones hash equally, and order and equality agree.
+pub fn octet_string_containers_compare<T: PartialOrd + Hash>(
+    container: &OctetStringAsn1Container<T>,
+    other: &OctetStringAsn1Container<T>,
+)
+    ensures inner { ⟦<OctetStringAsn1Container<T> as PartialEq>⟧.eq container.now other.now ≡ T.eq container.now.0 other.now.0 }
+    ensures hash { IsTrue (⟦<OctetStringAsn1Container<T> as PartialEq>⟧.eq container.now other.now)
+        → ⟦<OctetStringAsn1Container<T> as Hash>⟧.hash_input container.now ≡ ⟦<OctetStringAsn1Container<T> as Hash>⟧.hash_input other.now }
+    ensures order { IsTrue (⟦<OctetStringAsn1Container<T> as PartialEq>⟧.eq container.now other.now)
+        ↔ (⟦<OctetStringAsn1Container<T> as PartialOrd>⟧.partial_cmp container.now other.now ≡ Some Equal) }
+{}
+
+/// Bit string containers are equal where the values in them are. Equal ones hash equally, and order and equality agree.
+pub fn bit_string_containers_compare<T: PartialOrd + Hash>(
+    container: &BitStringAsn1Container<T>,
+    other: &BitStringAsn1Container<T>,
+)
+    ensures inner { ⟦<BitStringAsn1Container<T> as PartialEq>⟧.eq container.now other.now ≡ T.eq container.now.0 other.now.0 }
+    ensures hash { IsTrue (⟦<BitStringAsn1Container<T> as PartialEq>⟧.eq container.now other.now)
+        → ⟦<BitStringAsn1Container<T> as Hash>⟧.hash_input container.now ≡ ⟦<BitStringAsn1Container<T> as Hash>⟧.hash_input other.now }
+    ensures order { IsTrue (⟦<BitStringAsn1Container<T> as PartialEq>⟧.eq container.now other.now)
+        ↔ (⟦<BitStringAsn1Container<T> as PartialOrd>⟧.partial_cmp container.now other.now ≡ Some Equal) }
+{}
+
+/// Optional fields are equal where the values in them are. Equal ones hash equally, and order and equality agree.
+pub fn optional_fields_compare<T: PartialOrd + Hash>(optional: &Optional<T>, other: &Optional<T>)
+    ensures inner { ⟦<Optional<T> as PartialEq>⟧.eq optional.now other.now ≡ T.eq optional.now.0 other.now.0 }
+    ensures hash { IsTrue (⟦<Optional<T> as PartialEq>⟧.eq optional.now other.now)
+        → ⟦<Optional<T> as Hash>⟧.hash_input optional.now ≡ ⟦<Optional<T> as Hash>⟧.hash_input other.now }
+    ensures order { IsTrue (⟦<Optional<T> as PartialEq>⟧.eq optional.now other.now)
+        ↔ (⟦<Optional<T> as PartialOrd>⟧.partial_cmp optional.now other.now ≡ Some Equal) }
+{}
+
+/// Lists under SEQUENCE are equal where they are as long and each item equals that at its place.
+pub fn sequences_compare<T: PartialEq>(list: &Asn1SequenceOf<T>, other: &Asn1SequenceOf<T>)
+    ensures { ⟦<Asn1SequenceOf<T> as PartialEq>⟧.eq list.now other.now ≡ pointwise T.eq list.now other.now }
+{}
+
+/// Where `==` tells the items' meanings apart, lists under SEQUENCE are equal exactly where their items mean the same, one after
+/// another.
+pub fn equal_sequences_mean_the_same<T: EqualMeaning>(
+    list: &Asn1SequenceOf<T>,
+    other: &Asn1SequenceOf<T>,
+)
+    ensures { IsTrue (⟦<Asn1SequenceOf<T> as PartialEq>⟧.eq list.now other.now) ↔ (map T.meaning list.now ≡ map T.meaning other.now) }
+{}
+
+/// Lists under SET are equal where they are as long and each item equals that at its place.
+pub fn sets_compare<T: PartialEq>(list: &Asn1SetOf<T>, other: &Asn1SetOf<T>)
+    ensures { ⟦<Asn1SetOf<T> as PartialEq>⟧.eq list.now other.now ≡ pointwise T.eq list.now other.now }
+{}
+
+/// Where `==` tells the items' meanings apart, lists under SET are equal exactly where their items mean the same, one after
+/// another.
+pub fn equal_sets_mean_the_same<T: EqualMeaning>(list: &Asn1SetOf<T>, other: &Asn1SetOf<T>)
+    ensures { IsTrue (⟦<Asn1SetOf<T> as PartialEq>⟧.eq list.now other.now) ↔ (map T.meaning list.now ≡ map T.meaning other.now) }
+{}
+
+/// Explicit tags are equal where the values under them are.
+pub fn explicit_tags_compare<const N: u8, T: PartialEq>(
+    tagged: &ExplicitContextTag<N, T>,
+    other: &ExplicitContextTag<N, T>,
+)
+    ensures { ⟦<ExplicitContextTag<N, T> as PartialEq>⟧.eq tagged.now other.now ≡ T.eq tagged.now.0 other.now.0 }
+{}
+
+/// Where `==` tells the values' meanings apart, explicit tags are equal exactly where the values under them mean the
+/// same.
+pub fn equal_explicit_tags_mean_the_same<const N: u8, T: EqualMeaning>(
+    tagged: &ExplicitContextTag<N, T>,
+    other: &ExplicitContextTag<N, T>,
+)
+    ensures { IsTrue (⟦<ExplicitContextTag<N, T> as PartialEq>⟧.eq tagged.now other.now) ↔ (T.meaning tagged.now.0 ≡ T.meaning other.now.0) }
+{}
+
+/// Implicit tags are equal where the values under them are.
+pub fn implicit_tags_compare<const N: u8, T: PartialEq>(
+    tagged: &ImplicitContextTag<N, T>,
+    other: &ImplicitContextTag<N, T>,
+)
+    ensures { ⟦<ImplicitContextTag<N, T> as PartialEq>⟧.eq tagged.now other.now ≡ T.eq tagged.now.0 other.now.0 }
+{}
+
+/// Where `==` tells the values' meanings apart, implicit tags are equal exactly where the values under them mean the
+/// same.
+pub fn equal_implicit_tags_mean_the_same<const N: u8, T: EqualMeaning>(
+    tagged: &ImplicitContextTag<N, T>,
+    other: &ImplicitContextTag<N, T>,
+)
+    ensures { IsTrue (⟦<ImplicitContextTag<N, T> as PartialEq>⟧.eq tagged.now other.now) ↔ (T.meaning tagged.now.0 ≡ T.meaning other.now.0) }
+{}
