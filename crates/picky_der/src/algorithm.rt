@@ -1,16 +1,15 @@
 // AlgorithmIdentifiers.
-ghost use Rattle.std.specs.Prelude.{◌≡◌, IfOk, IfSome};
+ghost use Rattle.std.specs.Prelude.{◌≡◌, [], IfOk, IfErr, OnOk};
 ghost use Rattle.picky_der.specs.declared.algorithm.AlgorithmIdentifier.{AlgorithmIdentifier as Algorithm};
 ghost use Rattle.picky_der.specs.Reading.{Gives};
-ghost use Rattle.picky_der.specs.Form.{IsOneValue};
-ghost use Rattle.picky_der.specs.Algorithm.{parameters_bytes, parameters_at, fields_at, algorithm_form};
+ghost use Rattle.picky_der.specs.Algorithm.{parameters_at, fields_at, algorithm_form};
 ghost use Rattle.picky_der.specs.laws.Algorithm.{algorithm_readable, algorithm_writable};
 
 use crate::fault::DerError;
 use crate::form::{DerForm, DerRead, DerWrite};
 use crate::raw::Asn1RawDer;
 use crate::reader::DerReader;
-use crate::writing::write_holder;
+use crate::writing::write_value;
 use picky_asn1_oid::ObjectIdentifier;
 use picky_asn1_tag::{Asn1Value, CopyIn, Tag};
 use std::alloc::{AllocError, Global};
@@ -61,18 +60,6 @@ impl CopyIn for AlgorithmIdentifier {
     }
 }
 
-// The bytes of the parameters, none where there are no parameters.
-fn bytes_of(parameters: &Option<Asn1RawDer>) -> &[u8]
-    ensures bytes { result.now ≡ parameters_bytes parameters.now }
-    ensures one { IfSome parameters.now IsOneValue }
-{
-    match parameters {
-        Some(parameters) => parameters.as_bytes(),
-        None => &[],
-    }
-}
-
-// The parameters, where any are left, and nothing after them.
 #[tactic(auto, unfolding(crate::specs::Algorithm::parameters_at))]
 fn read_parameters(alloc: Global, mut reader: DerReader<'_>) -> Result<Option<Asn1RawDer>, DerError>
     ensures { Gives (λ p. p) result (parameters_at reader.entry.left) }
@@ -123,15 +110,13 @@ impl DerRead for AlgorithmIdentifier {
 }
 
 impl DerWrite for AlgorithmIdentifier {
-    fn write_der(&self, _alloc: Global, out: &mut Vec<u8>) -> Result<(), DerError> {
-        let parameters = bytes_of(&self.parameters);
-        write_holder(
-            out,
-            Tag::SEQUENCE,
-            Tag::OID,
-            self.oid.contents(),
-            parameters,
-        )
+    fn write_der(&self, alloc: Global, out: &mut Vec<u8>) -> Result<(), DerError> {
+        let mut contents = Vec::new(alloc);
+        self.oid.write_der(alloc, &mut contents)?;
+        if let Some(parameters) = &self.parameters {
+            parameters.write_der(alloc, &mut contents)?;
+        }
+        write_value(out, Tag::SEQUENCE, &contents)
     }
 
     ghost writable = { algorithm_writable };

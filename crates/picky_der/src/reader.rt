@@ -2,10 +2,12 @@
 ghost use Rattle.std.specs.Prelude.{◌≡◌, ◌++◌, ◌≤◌, ◌+◌, ◌↔◌, ℕ, List, [], Ok, length, IfOk, IsTrue};
 ghost use Rattle.picky_der.specs.Length.{SpellsLength, number_of};
 ghost use Rattle.picky_der.specs.Form.{OkIs, IsOneValue};
+ghost use Rattle.picky_der.specs.declared.reader.TagPeeker.{TagPeeker as Peeker};
 ghost use Rattle.picky_der.specs.Reading.{Answers, Moves, long_at, length_at, contents_at, rest_at, after_tag, value_at, raw_at, whole_bytes, nested_at, nested_bits_at, end_at, tag_at};
 
 use crate::fault::DerError;
-use picky_asn1_tag::Tag;
+use picky_asn1_tag::{Asn1Value, CopyIn, Tag};
+use std::alloc::{AllocError, Global};
 use std::marker::Model;
 
 /// The tag that stands next.
@@ -13,6 +15,18 @@ use std::marker::Model;
 pub struct TagPeeker {
     /// The tag.
     pub next_tag: Tag,
+}
+
+impl Asn1Value for TagPeeker {
+    ghost Meaning = { Peeker };
+
+    ghost meaning = { λ peeker. peeker };
+}
+
+impl CopyIn for TagPeeker {
+    fn copy_in(&self, _alloc: Global) -> Result<TagPeeker, AllocError> {
+        Ok(*self)
+    }
 }
 
 /// Reads values one after another from a slice, and copies nothing: what it answers are slices of its input.

@@ -5,8 +5,14 @@
 #[cfg(test)]
 mod cases;
 #[cfg(test)]
+mod kinds;
+#[cfg(test)]
+mod simple;
+#[cfg(test)]
 mod table;
 #[cfg(test)]
 mod tests;
+#[cfg(test)]
+mod types;
 #[cfg(test)]
 mod wrappers;

@@ -2,7 +2,9 @@ use crate::cases::{
     Ten, answer, bytes_of, nested_headers, nested_readers, pair_in, read_ten,
     sequences_in_sequences, write_ten,
 };
+use crate::kinds::comes_back_as;
 use crate::table::TABLE;
+use crate::types::{TYPES, WRITTEN};
 use picky_asn1_bits::{IntegerAsn1, OctetStringAsn1};
 use picky_asn1_tag::Tag;
 use picky_asn1_wrapper::{
@@ -158,6 +160,43 @@ fn another_reader_reads_the_same(rt: HostRuntime) -> Result<(), Fail> {
         }
     }
     assert!(rt; 200 <= cases);
+    Ok(())
+}
+
+// What another reader makes of encodings of each type, good, cut and damaged at each byte
+// (scripts/picky_der_types_table.py, which says what each verdict means).
+#[test]
+fn another_reader_reads_each_type_the_same(rt: HostRuntime) -> Result<(), Fail> {
+    let alloc = rt.alloc();
+    let mut cases = 0u32;
+    for line in TYPES.lines() {
+        if let Some((kind, case)) = line.split_once(' ')
+            && let Some((hex, verdict)) = case.split_once(' ')
+        {
+            let back = comes_back_as(alloc, kind, &bytes_of(alloc, hex)?)?;
+            assert_eq!(rt; back, verdict != "-", "{line}");
+            cases = cases.saturating_add(1);
+        }
+    }
+    assert!(rt; 1000 <= cases);
+    Ok(())
+}
+
+// Encodings that openssl writes.
+#[test]
+fn encodings_of_another_writer_come_back(rt: HostRuntime) -> Result<(), Fail> {
+    let alloc = rt.alloc();
+    let mut cases = 0u32;
+    for line in WRITTEN.lines() {
+        if let Some((kind, case)) = line.split_once(' ')
+            && let Some((hex, _text)) = case.split_once(' ')
+        {
+            let back = comes_back_as(alloc, kind, &bytes_of(alloc, hex)?)?;
+            assert!(rt; back, "{line}");
+            cases = cases.saturating_add(1);
+        }
+    }
+    assert!(rt; cases == 10);
     Ok(())
 }
 

@@ -1,20 +1,18 @@
 -- The laws of an AlgorithmIdentifier.
-use Rattle.std.proofs.Common.{◌≡◌, ℕ, ◌+◌, ◌^◌, ◌<◌, eqb, Option, Some, None, List, [], ◌∷◌, ◌++◌, length, Result, Ok, Err, refl, sym, ap, subst, ◌∙◌, arith, inl, inr}
+use Rattle.std.proofs.Common.{◌≡◌, ℕ, ◌+◌, ◌<◌, eqb, Option, Some, None, List, [], ◌∷◌, ◌++◌, length, Ok, refl, sym, ap, subst, ◌∙◌, arith, inl, inr}
 use Rattle.std.specs.Prelude.{IfSome}
-use Rattle.std.proofs.lemmas.List.{append-nil, append_cancel_left, length-append}
-use Rattle.picky_asn1_oid.specs.Arcs.{contents_of}
+use Rattle.std.proofs.lemmas.List.{append-nil, append_cancel_left}
 use Rattle.picky_asn1_tag.specs.declared.tag.Tag.{Tag}
-use Rattle.picky_der.specs.declared.fault.DerError.{DerError}
 use Rattle.picky_der.specs.declared.algorithm.AlgorithmIdentifier.{AlgorithmIdentifier}
 use Rattle.picky_der.specs.Length.{IsBytes, TailIsBytes, value_of}
 use Rattle.picky_der.specs.Reading.{◌>>=◌, nested_at, raw_at, end_at}
-use Rattle.picky_der.specs.Form.{Readable, Writable, Writes, IsValue, IsOneValue, Takes, GivesOrTooDeep}
+use Rattle.picky_der.specs.Form.{Readable, Writable, IsValue, IsOneValue, Takes, GivesOrTooDeep}
 use Rattle.picky_der.specs.Primitive.{SpellsPrimitive, primitive_at}
 use Rattle.picky_der.specs.Identifier.{identifier_of, identifier_contents}
 use Rattle.picky_der.specs.Algorithm.{IsAlgorithm, parameters_bytes, SpellsAlgorithm, parameters_at, fields_at, algorithm_at, algorithm_form}
 use Rattle.picky_der.specs.laws.Steps.{ok_is, bind_ok, pair_snd}
 use Rattle.picky_der.specs.laws.Lengths.{IsBytes-after, TailIsBytes-of}
-use Rattle.picky_der.specs.laws.Headers.{length-value_of, IsValue-same, IsBytes-contents, BeginsBy-value, nested_again, nested_takes, nested_shorter, raw_again, raw_takes, end_takes, end_again, eqb_same}
+use Rattle.picky_der.specs.laws.Headers.{IsValue-same, IsBytes-contents, BeginsBy-value, nested_again, nested_takes, nested_shorter, raw_again, raw_takes, end_takes, end_again, eqb_same}
 use Rattle.picky_der.specs.laws.Identifier.{identifier_readable, identifier_writable}
 
 abbrev made : List ℕ → Option (List ℕ) → AlgorithmIdentifier
@@ -152,20 +150,3 @@ algorithm_writable = record {
   not_refused = λ s a p r. r p.0;
   accepted = λ a f r. r f;
 }
-
--- ---- what is written
-
--- a SEQUENCE of the value that holds the identifier's octets, and then the parameters
-pub algorithm_spelled : (a : AlgorithmIdentifier) (octets parameters s : List ℕ) → octets ≡ contents_of a.oid → parameters ≡ parameters_bytes a.parameters → IsValue sequence (value_of 6 octets ++ parameters) s → SpellsAlgorithm s a
-algorithm_spelled a octets parameters s o p v =
-    let below : length octets < 2 ^ 64 = let f = v.fits in omega (arith, length-value_of 6 octets, length-append (value_of 6 octets) parameters) in
-    record {
-      identifier = value_of 6 octets;
-      spelled = record { octets = octets; value = record { one_byte = λ h. absurd (omega arith); fits = below; bytes_are = refl }; stands_for = o };
-      value = subst (λ (r : List ℕ). IsValue sequence (value_of 6 octets ++ r) s) p v;
-    }
-
-pub algorithm_written : (a : AlgorithmIdentifier) (octets parameters old new : List ℕ) (result : Result (Unit {0}) DerError) → IsAlgorithm a → octets ≡ contents_of a.oid → parameters ≡ parameters_bytes a.parameters → Writes (IsValue sequence (value_of 6 octets ++ parameters)) ⊥ result old new → Writes (λ s. algorithm_form.Encodes s a) (algorithm_form.Refused a) result old new
-algorithm_written a octets parameters old new (Ok u) formed o p w =
-    record { encoding = w.encoding; encoded = (formed, algorithm_spelled a octets parameters w.encoding o p w.encoded); new_is = w.new_is }
-algorithm_written a octets parameters old new (Err e) formed o p w = (elim w.0 [ inl h ↦ inl h | inr h ↦ absurd h.1 ], w.1)

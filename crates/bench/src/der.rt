@@ -1,0 +1,93 @@
+// How long DER takes, by the size of what is read, and where bytes claim more than there is.
+use crate::timing::micros_since;
+use anyhow::Result;
+use picky_asn1_tag::Tag;
+use picky_asn1_wrapper::Asn1SequenceOf;
+use picky_der::{DerReader, from_bytes, to_vec};
+use std::alloc::Global;
+use std::time::Instant;
+
+// Prints the microseconds of each.
+pub(crate) fn print(rt: &HostRuntime) -> Result<()> {
+    for count in [50_000, 100_000, 200_000] {
+        time_numbers(rt, count)?;
+    }
+    for size in [1 << 18, 1 << 19, 1 << 20] {
+        time_headers(rt, size)?;
+    }
+    time_claims(rt)
+}
+
+// A SEQUENCE of so many INTEGERs, written and read.
+fn time_numbers(rt: &HostRuntime, count: u32) -> Result<()> {
+    let mut numbers = Vec::new(rt.alloc());
+    for number in 0..count {
+        numbers.push(number)?;
+    }
+    let sequence = Asn1SequenceOf(numbers);
+    let start = Instant::now(rt)?;
+    let bytes = to_vec(rt.alloc(), &sequence)?;
+    let written = micros_since(rt, &start)?;
+    let start = Instant::now(rt)?;
+    let back: Asn1SequenceOf<u32> = from_bytes(rt.alloc(), &bytes)?;
+    let read = micros_since(rt, &start)?;
+    println!(rt;
+        "{count} integers, {} bytes: written in {written} us, {} read in {read} us",
+        bytes.len(),
+        back.0.len()
+    )?;
+    Ok(())
+}
+
+// So many bytes: headers of five bytes, each the contents of the one before it, and zeros where less is left than such a
+// header may announce.
+fn nested_headers(alloc: Global, size: u32) -> Result<Vec<u8>> {
+    let mut bytes = Vec::new(alloc);
+    let mut left = size;
+    while left > 65_540 {
+        left -= 5;
+        let length = left.to_be_bytes();
+        bytes.extend_from_slice(&[0x30, 0x83])?;
+        bytes.extend_from_slice(&length[1..])?;
+    }
+    bytes.resize(size as usize, 0)?;
+    Ok(bytes)
+}
+
+// How many readers are nested in one another before one is refused, at most so many.
+fn nested_readers(bytes: &[u8], most: u32) -> u32 {
+    let mut reader = DerReader::new(bytes);
+    for depth in 0..most {
+        match reader.nested(Tag::SEQUENCE) {
+            Ok(inner) => reader = inner,
+            Err(_) => return depth,
+        }
+    }
+    most
+}
+
+// Headers nested in one another.
+fn time_headers(rt: &HostRuntime, size: u32) -> Result<()> {
+    let bytes = nested_headers(rt.alloc(), size)?;
+    let start = Instant::now(rt)?;
+    let readers = nested_readers(&bytes, size);
+    let micros = micros_since(rt, &start)?;
+    println!(rt;
+        "{} bytes of headers: {readers} readers in {micros} us",
+        bytes.len()
+    )?;
+    Ok(())
+}
+
+// A length of 2^63 in ten bytes.
+fn time_claims(rt: &HostRuntime) -> Result<()> {
+    let bytes = [0x04, 0x88, 0x80, 0, 0, 0, 0, 0, 0, 0];
+    let start = Instant::now(rt)?;
+    let read = DerReader::new(&bytes).read_value(Tag::OCTET_STRING);
+    let micros = micros_since(rt, &start)?;
+    println!(rt;
+        "a length of 2^63 in ten bytes: refused {} in {micros} us",
+        read.is_err()
+    )?;
+    Ok(())
+}
