@@ -30,33 +30,42 @@ pub fn headers_compare<T: Asn1Type + PartialOrd + Hash>(
         ↔ (⟦<HeaderOnly<T> as PartialOrd>⟧.partial_cmp header.now other.now ≡ Some Equal) }
 {}
 
-/// Octet string containers are equal where the values in them are. Equal ones hash equally, and order and equality agree.
+/// Octet string containers are compared, ordered and hashed as the values in them. Equal ones hash equally, and order and
+/// equality agree.
 pub fn octet_string_containers_compare<T: PartialOrd + Hash>(
     container: &OctetStringAsn1Container<T>,
     other: &OctetStringAsn1Container<T>,
 )
     ensures inner { ⟦<OctetStringAsn1Container<T> as PartialEq>⟧.eq container.now other.now ≡ T.eq container.now.0 other.now.0 }
+    ensures inner_order { ⟦<OctetStringAsn1Container<T> as PartialOrd>⟧.partial_cmp container.now other.now ≡ T.partial_cmp container.now.0 other.now.0 }
+    ensures inner_hash { ⟦<OctetStringAsn1Container<T> as Hash>⟧.hash_input container.now ≡ T.hash_input container.now.0 }
     ensures hash { IsTrue (⟦<OctetStringAsn1Container<T> as PartialEq>⟧.eq container.now other.now)
         → ⟦<OctetStringAsn1Container<T> as Hash>⟧.hash_input container.now ≡ ⟦<OctetStringAsn1Container<T> as Hash>⟧.hash_input other.now }
     ensures order { IsTrue (⟦<OctetStringAsn1Container<T> as PartialEq>⟧.eq container.now other.now)
         ↔ (⟦<OctetStringAsn1Container<T> as PartialOrd>⟧.partial_cmp container.now other.now ≡ Some Equal) }
 {}
 
-/// Bit string containers are equal where the values in them are. Equal ones hash equally, and order and equality agree.
+/// Bit string containers are compared, ordered and hashed as the values in them. Equal ones hash equally, and order and
+/// equality agree.
 pub fn bit_string_containers_compare<T: PartialOrd + Hash>(
     container: &BitStringAsn1Container<T>,
     other: &BitStringAsn1Container<T>,
 )
     ensures inner { ⟦<BitStringAsn1Container<T> as PartialEq>⟧.eq container.now other.now ≡ T.eq container.now.0 other.now.0 }
+    ensures inner_order { ⟦<BitStringAsn1Container<T> as PartialOrd>⟧.partial_cmp container.now other.now ≡ T.partial_cmp container.now.0 other.now.0 }
+    ensures inner_hash { ⟦<BitStringAsn1Container<T> as Hash>⟧.hash_input container.now ≡ T.hash_input container.now.0 }
     ensures hash { IsTrue (⟦<BitStringAsn1Container<T> as PartialEq>⟧.eq container.now other.now)
         → ⟦<BitStringAsn1Container<T> as Hash>⟧.hash_input container.now ≡ ⟦<BitStringAsn1Container<T> as Hash>⟧.hash_input other.now }
     ensures order { IsTrue (⟦<BitStringAsn1Container<T> as PartialEq>⟧.eq container.now other.now)
         ↔ (⟦<BitStringAsn1Container<T> as PartialOrd>⟧.partial_cmp container.now other.now ≡ Some Equal) }
 {}
 
-/// Optional fields are equal where the values in them are. Equal ones hash equally, and order and equality agree.
+/// Optional fields are compared, ordered and hashed as the values in them. Equal ones hash equally, and order and
+/// equality agree.
 pub fn optional_fields_compare<T: PartialOrd + Hash>(optional: &Optional<T>, other: &Optional<T>)
     ensures inner { ⟦<Optional<T> as PartialEq>⟧.eq optional.now other.now ≡ T.eq optional.now.0 other.now.0 }
+    ensures inner_order { ⟦<Optional<T> as PartialOrd>⟧.partial_cmp optional.now other.now ≡ T.partial_cmp optional.now.0 other.now.0 }
+    ensures inner_hash { ⟦<Optional<T> as Hash>⟧.hash_input optional.now ≡ T.hash_input optional.now.0 }
     ensures hash { IsTrue (⟦<Optional<T> as PartialEq>⟧.eq optional.now other.now)
         → ⟦<Optional<T> as Hash>⟧.hash_input optional.now ≡ ⟦<Optional<T> as Hash>⟧.hash_input other.now }
     ensures order { IsTrue (⟦<Optional<T> as PartialEq>⟧.eq optional.now other.now)
