@@ -1,8 +1,8 @@
 //! What is proved of ASN.1 values beside their calls.
 
 pub use picky_asn1_bits::laws::{
-    bit_strings_compare, integers_compare, octet_strings_compare,
-    unsigned_integers_keep_their_number,
+    bit_strings_compare, integers_compare, octet_strings_compare, shortest_integers_are_unique,
+    unsigned_integers_keep_their_number, written_payloads_follow_the_count,
 };
 pub use picky_asn1_date::laws::{
     dates_compare, forms_compare, generalized_times_are_dates, utc_times_are_dates,

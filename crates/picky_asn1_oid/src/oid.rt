@@ -84,7 +84,8 @@ impl ObjectIdentifier {
     }
 
     /// The identifier of these contents octets (X.690 section 8.19). Refused as `BadContents` exactly where they
-    /// aren't those of an identifier whose arcs fit 128 bits, each number in its shortest form.
+    /// aren't those of an identifier whose arcs fit 128 bits, and so does 40 times the first with the second, each number
+    /// in its shortest form.
     #[tactic(auto, unfolding(crate::specs::Fault::contents_table))]
     pub fn from_contents(alloc: Global, bytes: &[u8]) -> Result<ObjectIdentifier, OidError>
         ensures found { IfOk result (IsContentsOf bytes.now) }

@@ -21,6 +21,6 @@ held octets = if nat_lt (bit_count octets) (2 ^ 64) then Ok octets else Err OutO
 abbrev pub bits_of : List ℕ → Result (List ℕ) DerError
 bits_of octets = tested_of is_counted octets >>= held
 
--- the contents of BIT STRING; unused bits are taken as they stand
+-- the contents of BIT STRING; unused bits are taken as they stand, and needn't be zero as X.690 section 11.2 asks
 abbrev pub bits_contents : Contents (List ℕ)
 bits_contents = record { in_form = IsBitString; Octets = λ octets x. octets ≡ x; decode = bits_of }

@@ -22,11 +22,12 @@ is_ia5 octets = list_all (λ b. nat_lt b 0x80) octets
 abbrev pub is_numeric : List ℕ → Bool
 is_numeric octets = list_all (λ b. is_in_range 0x30 0x39 b || b == 0x20) octets
 
--- whether each octet is a letter, a digit or a sign of PrintableString
+-- whether the octet is a letter, a digit or a sign of PrintableString
 abbrev pub is_printable_octet : ℕ → Bool
 is_printable_octet b =
     is_in_range 0x41 0x5A b || (is_in_range 0x61 0x7A b || (is_in_range 0x30 0x39 b || list_any (λ c. b == c) (codes " '()+,-./:=?")))
 
+-- whether each octet is one of PrintableString
 abbrev pub is_printable : List ℕ → Bool
 is_printable octets = list_all is_printable_octet octets
 

@@ -19,7 +19,7 @@ use std::ops::{Deref, DerefMut};
 /// Reading answers `BadValue` exactly where the contents are empty, the count is above 7, or it isn't 0 and no octet
 /// follows; 2^64 bits or more are answered as want of memory. Unused bits are read as they stand and written as they
 /// are held.
-#[derive(Debug, Drop, PartialEq, Eq, PartialOrd, Ord, Hash)]
+#[derive(Debug, Drop, PartialEq, Eq)]
 pub struct BitStringAsn1(pub BitString);
 
 impl From<BitString> for BitStringAsn1 {

@@ -11,10 +11,11 @@ use picky_der::{DerError, DerForm, DerRead, DerReader, DerTagged, DerWrite};
 use std::alloc::{AllocError, Global};
 use std::ops::{Deref, DerefMut};
 
-/// An OBJECT IDENTIFIER under its tag: its contents are the groups of seven bits of its arcs (X.690 section 8.19).
+/// An OBJECT IDENTIFIER under its tag: its contents are numbers in groups of seven bits, one for the first two
+/// arcs and one for each further arc (X.690 section 8.19).
 ///
-/// Reading answers `BadValue` exactly where the contents aren't those of an identifier whose arcs fit 128 bits, each
-/// number in its shortest form.
+/// Reading answers `BadValue` exactly where the contents aren't those of an identifier whose numbers fit 128 bits, each in
+/// its shortest form.
 #[derive(Debug, Drop, PartialEq, Eq)]
 pub struct ObjectIdentifierAsn1(pub ObjectIdentifier);
 

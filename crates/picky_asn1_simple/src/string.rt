@@ -22,7 +22,9 @@ pub trait DecidedSet: CharSet {
     ghost decides: { (octets : List ℕ) → Decides (test octets) (Self.allows octets) };
 }
 
-/// A string of the set `C` under the tag of the kind `K`.
+/// A string of the set `C` under the tag of the kind `K` (X.690 section 8.23).
+///
+/// Reading answers `BadValue` exactly where the contents octets aren't in the set.
 #[derive(Debug, Drop, PartialEq, Eq)]
 pub struct StringAsn1<K: Asn1Type, C: CharSet> {
     string: RestrictedString<C>,

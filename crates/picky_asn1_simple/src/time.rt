@@ -53,8 +53,9 @@ impl DecidedTime for GeneralizedTimeRepr {
 
 /// A date in the form of text `TR` under the tag of the kind `K`.
 ///
-/// The contents octets are the text of the date (X.690 sections 11.7 and 11.8). A date whose year the form doesn't
-/// have has no encoding.
+/// The contents octets are the text of the date (X.690 sections 11.7 and 11.8). Reading answers `BadValue` exactly where
+/// they are the text of no date with its year in the form and its other numbers in range; the day may not be in its
+/// month. Writing a date whose year the form doesn't have is `BadValue`.
 #[derive(Clone, Copy, Debug, PartialEq, Eq)]
 pub struct DateAsn1<K: Asn1Type, TR: TimeRepr> {
     date: Date<TR>,

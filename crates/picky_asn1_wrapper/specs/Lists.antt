@@ -1,4 +1,4 @@
--- SEQUENCE OF and SET OF: the values of one type, one after another, in one constructed value (X.690 sections 8.10 and 8.12).
+-- SEQUENCE OF and SET OF: the values of one type, one after another, in one constructed value (X.690 sections 8.10 and 8.12; the order of section 11.6 isn't asked of a SET OF).
 use Rattle.std.specs.Prelude.{◌≡◌, ℕ, zero, suc, ◌+◌, ◌==◌, List, [], ◌∷◌, ◌++◌, length, Result, Ok, Err, ◌⊎◌}
 use Rattle.picky_asn1_tag.specs.declared.tag.Tag.{Tag}
 use Rattle.picky_der.specs.declared.fault.DerError.{DerError}

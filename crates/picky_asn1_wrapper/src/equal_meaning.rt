@@ -1,7 +1,7 @@
 // Types whose `==` tells values of different meaning apart.
 ghost use Rattle.std.specs.Prelude.{◌≡◌, ◌↔◌, IsTrue, string_bytes, refl};
 ghost use Rattle.std.specs.Cmp.Lexicographic.{bytes_decides};
-ghost use Rattle.picky_asn1_wrapper.specs.laws.Equal.{nat_equal, bool_equal, strings_equal, dates_equal, lists_equal};
+ghost use Rattle.picky_asn1_wrapper.specs.laws.Equal.{nat_equal, bool_equal, bytes_equal, strings_equal, numbers_equal, dates_equal, lists_equal};
 
 use crate::container::{BitStringAsn1Container, OctetStringAsn1Container};
 use crate::explicit::ExplicitContextTag;
@@ -9,12 +9,12 @@ use crate::header_only::HeaderOnly;
 use crate::implicit::ImplicitContextTag;
 use crate::lists::{Asn1SequenceOf, Asn1SetOf};
 use crate::optional::Optional;
-use picky_asn1_bits::{IntegerAsn1, OctetStringAsn1};
-use picky_asn1_date::TimeRepr;
+use picky_asn1_bits::{BitString, IntegerAsn1, OctetStringAsn1};
+use picky_asn1_date::{Date, TimeRepr};
 use picky_asn1_oid::ObjectIdentifier;
 use picky_asn1_simple::{BitStringAsn1, DateAsn1, ObjectIdentifierAsn1, StringAsn1};
 use picky_asn1_tag::{Asn1Type, Asn1Value};
-use picky_asn1_text::CharSet;
+use picky_asn1_text::{CharSet, RestrictedString};
 use picky_der::Asn1RawDer;
 
 /// A type whose `==` tells values of different meaning apart, and no others.
@@ -85,6 +85,18 @@ impl EqualMeaning for Asn1RawDer {
 
 impl EqualMeaning for ObjectIdentifier {
     ghost equal_meaning = { bytes_decides };
+}
+
+impl EqualMeaning for BitString {
+    ghost equal_meaning = { bytes_decides };
+}
+
+impl<C: CharSet + PartialEq> EqualMeaning for RestrictedString<C> {
+    ghost equal_meaning = { bytes_equal };
+}
+
+impl<TR: PartialEq> EqualMeaning for Date<TR> {
+    ghost equal_meaning = { numbers_equal };
 }
 
 impl EqualMeaning for BitStringAsn1 {

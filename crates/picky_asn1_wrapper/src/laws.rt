@@ -18,58 +18,73 @@ pub fn equal_values_mean_the_same<T: EqualMeaning>(value: &T, other: &T)
     ensures { IsTrue (T.eq value.now other.now) ↔ (T.meaning value.now ≡ T.meaning other.now) }
 {}
 
-/// All headers of a type are equal. They hash equally, and order and equality agree.
-pub fn headers_compare<T: Asn1Type + PartialOrd + Hash>(
-    header: &HeaderOnly<T>,
-    other: &HeaderOnly<T>,
-)
+/// All headers of a type are equal, and order and equality agree.
+pub fn headers_compare<T: Asn1Type + PartialOrd>(header: &HeaderOnly<T>, other: &HeaderOnly<T>)
     ensures one { IsTrue (⟦<HeaderOnly<T> as PartialEq>⟧.eq header.now other.now) }
-    ensures hash { IsTrue (⟦<HeaderOnly<T> as PartialEq>⟧.eq header.now other.now)
-        → ⟦<HeaderOnly<T> as Hash>⟧.hash_input header.now ≡ ⟦<HeaderOnly<T> as Hash>⟧.hash_input other.now }
     ensures order { IsTrue (⟦<HeaderOnly<T> as PartialEq>⟧.eq header.now other.now)
         ↔ (⟦<HeaderOnly<T> as PartialOrd>⟧.partial_cmp header.now other.now ≡ Some Equal) }
 {}
 
-/// Octet string containers are compared, ordered and hashed as the values in them. Equal ones hash equally, and order and
-/// equality agree.
-pub fn octet_string_containers_compare<T: PartialOrd + Hash>(
+/// All headers of a type hash equally.
+pub fn headers_hash<T: Asn1Type + PartialEq + Hash>(header: &HeaderOnly<T>, other: &HeaderOnly<T>)
+    ensures equal { ⟦<HeaderOnly<T> as Hash>⟧.hash_input header.now ≡ ⟦<HeaderOnly<T> as Hash>⟧.hash_input other.now }
+{}
+
+/// Octet string containers are compared and ordered as the values in them, and order and equality agree.
+pub fn octet_string_containers_compare<T: PartialOrd>(
     container: &OctetStringAsn1Container<T>,
     other: &OctetStringAsn1Container<T>,
 )
     ensures inner { ⟦<OctetStringAsn1Container<T> as PartialEq>⟧.eq container.now other.now ≡ T.eq container.now.0 other.now.0 }
     ensures inner_order { ⟦<OctetStringAsn1Container<T> as PartialOrd>⟧.partial_cmp container.now other.now ≡ T.partial_cmp container.now.0 other.now.0 }
-    ensures inner_hash { ⟦<OctetStringAsn1Container<T> as Hash>⟧.hash_input container.now ≡ T.hash_input container.now.0 }
-    ensures hash { IsTrue (⟦<OctetStringAsn1Container<T> as PartialEq>⟧.eq container.now other.now)
-        → ⟦<OctetStringAsn1Container<T> as Hash>⟧.hash_input container.now ≡ ⟦<OctetStringAsn1Container<T> as Hash>⟧.hash_input other.now }
     ensures order { IsTrue (⟦<OctetStringAsn1Container<T> as PartialEq>⟧.eq container.now other.now)
         ↔ (⟦<OctetStringAsn1Container<T> as PartialOrd>⟧.partial_cmp container.now other.now ≡ Some Equal) }
 {}
 
-/// Bit string containers are compared, ordered and hashed as the values in them. Equal ones hash equally, and order and
-/// equality agree.
-pub fn bit_string_containers_compare<T: PartialOrd + Hash>(
+/// Octet string containers are hashed as the values in them, and equal ones hash equally.
+pub fn octet_string_containers_hash<T: PartialEq + Hash>(
+    container: &OctetStringAsn1Container<T>,
+    other: &OctetStringAsn1Container<T>,
+)
+    ensures inner { ⟦<OctetStringAsn1Container<T> as Hash>⟧.hash_input container.now ≡ T.hash_input container.now.0 }
+    ensures equal { IsTrue (⟦<OctetStringAsn1Container<T> as PartialEq>⟧.eq container.now other.now)
+        → ⟦<OctetStringAsn1Container<T> as Hash>⟧.hash_input container.now ≡ ⟦<OctetStringAsn1Container<T> as Hash>⟧.hash_input other.now }
+{}
+
+/// Bit string containers are compared and ordered as the values in them, and order and equality agree.
+pub fn bit_string_containers_compare<T: PartialOrd>(
     container: &BitStringAsn1Container<T>,
     other: &BitStringAsn1Container<T>,
 )
     ensures inner { ⟦<BitStringAsn1Container<T> as PartialEq>⟧.eq container.now other.now ≡ T.eq container.now.0 other.now.0 }
     ensures inner_order { ⟦<BitStringAsn1Container<T> as PartialOrd>⟧.partial_cmp container.now other.now ≡ T.partial_cmp container.now.0 other.now.0 }
-    ensures inner_hash { ⟦<BitStringAsn1Container<T> as Hash>⟧.hash_input container.now ≡ T.hash_input container.now.0 }
-    ensures hash { IsTrue (⟦<BitStringAsn1Container<T> as PartialEq>⟧.eq container.now other.now)
-        → ⟦<BitStringAsn1Container<T> as Hash>⟧.hash_input container.now ≡ ⟦<BitStringAsn1Container<T> as Hash>⟧.hash_input other.now }
     ensures order { IsTrue (⟦<BitStringAsn1Container<T> as PartialEq>⟧.eq container.now other.now)
         ↔ (⟦<BitStringAsn1Container<T> as PartialOrd>⟧.partial_cmp container.now other.now ≡ Some Equal) }
 {}
 
-/// Optional fields are compared, ordered and hashed as the values in them. Equal ones hash equally, and order and
-/// equality agree.
-pub fn optional_fields_compare<T: PartialOrd + Hash>(optional: &Optional<T>, other: &Optional<T>)
+/// Bit string containers are hashed as the values in them, and equal ones hash equally.
+pub fn bit_string_containers_hash<T: PartialEq + Hash>(
+    container: &BitStringAsn1Container<T>,
+    other: &BitStringAsn1Container<T>,
+)
+    ensures inner { ⟦<BitStringAsn1Container<T> as Hash>⟧.hash_input container.now ≡ T.hash_input container.now.0 }
+    ensures equal { IsTrue (⟦<BitStringAsn1Container<T> as PartialEq>⟧.eq container.now other.now)
+        → ⟦<BitStringAsn1Container<T> as Hash>⟧.hash_input container.now ≡ ⟦<BitStringAsn1Container<T> as Hash>⟧.hash_input other.now }
+{}
+
+/// Optional fields are compared and ordered as the values in them, and order and equality agree.
+pub fn optional_fields_compare<T: PartialOrd>(optional: &Optional<T>, other: &Optional<T>)
     ensures inner { ⟦<Optional<T> as PartialEq>⟧.eq optional.now other.now ≡ T.eq optional.now.0 other.now.0 }
     ensures inner_order { ⟦<Optional<T> as PartialOrd>⟧.partial_cmp optional.now other.now ≡ T.partial_cmp optional.now.0 other.now.0 }
-    ensures inner_hash { ⟦<Optional<T> as Hash>⟧.hash_input optional.now ≡ T.hash_input optional.now.0 }
-    ensures hash { IsTrue (⟦<Optional<T> as PartialEq>⟧.eq optional.now other.now)
-        → ⟦<Optional<T> as Hash>⟧.hash_input optional.now ≡ ⟦<Optional<T> as Hash>⟧.hash_input other.now }
     ensures order { IsTrue (⟦<Optional<T> as PartialEq>⟧.eq optional.now other.now)
         ↔ (⟦<Optional<T> as PartialOrd>⟧.partial_cmp optional.now other.now ≡ Some Equal) }
+{}
+
+/// Optional fields are hashed as the values in them, and equal ones hash equally.
+pub fn optional_fields_hash<T: PartialEq + Hash>(optional: &Optional<T>, other: &Optional<T>)
+    ensures inner { ⟦<Optional<T> as Hash>⟧.hash_input optional.now ≡ T.hash_input optional.now.0 }
+    ensures equal { IsTrue (⟦<Optional<T> as PartialEq>⟧.eq optional.now other.now)
+        → ⟦<Optional<T> as Hash>⟧.hash_input optional.now ≡ ⟦<Optional<T> as Hash>⟧.hash_input other.now }
 {}
 
 /// Lists under SEQUENCE are equal where they are as long and each item equals that at its place.

@@ -35,7 +35,7 @@ pub record Form (X : Type 0) : Type 1 where
   pub Spells : List ℕ → X → Type 0
   -- the bytes are the encoding of the value, which is written
   pub Encodes : List ℕ → X → Type 0
-  -- the value has no encoding
+  -- the value is refused when it is written, whatever memory there is
   pub Refused : X → Type 0
   -- the tags by which a spelling may begin
   pub begins : ℕ → Bool

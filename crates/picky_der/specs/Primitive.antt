@@ -1,4 +1,4 @@
--- Types of one tag whose values hold no further values: contents octets that stand for a value (X.690 sections 8.2, 8.3, 8.7, 8.8, 8.23).
+-- Types of one tag whose values hold no further values: contents octets that stand for a value (X.690 sections 8.2, 8.3, 8.6 to 8.8, 8.19, 8.23, 11.7, 11.8).
 use Rattle.std.specs.Prelude.{◌≡◌, ℕ, ◌==◌, List, Result, Ok}
 use Rattle.picky_asn1_tag.specs.declared.tag.Tag.{Tag}
 use Rattle.picky_der.specs.declared.fault.DerError.{DerError}
@@ -8,7 +8,7 @@ use Rattle.picky_der.specs.Form.{Form, IsValue}
 
 -- What the contents octets of a type are.
 pub record Contents (X : Type 0) : Type 1 where
-  -- the values that have contents octets
+  -- the values of which the laws speak; each has contents octets
   pub in_form : X → Type 0
   -- the octets stand for the value
   pub Octets : List ℕ → X → Type 0
@@ -34,7 +34,7 @@ pub record SpellsPrimitive {X : Type 0} (tag : Tag) (Octets : List ℕ → X →
 unfoldable pub primitive_at : {X : Type 0} → Tag → (List ℕ → Result X DerError) → ℕ → List ℕ → Result (X × List ℕ) DerError
 primitive_at tag decode depth bytes = value_at tag bytes >>= λ v. decode v.0 >>= λ x. Ok (x, v.1)
 
--- A type of this tag with these contents octets: each value that has octets is written.
+-- A type of this tag with these contents octets: each value in form is written.
 abbrev pub primitive_form : {X : Type 0} → Tag → Contents X → Form X
 primitive_form tag k = record {
   in_form = k.in_form;

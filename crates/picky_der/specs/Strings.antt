@@ -15,6 +15,7 @@ is_shortest (b ∷ c ∷ bs) = not (repeats_sign b c)
 abbrev pub integer_of : List ℕ → Result (List ℕ) DerError
 integer_of octets = if is_shortest octets then Ok octets else Err BadValue
 
+-- INTEGERs of any size, seen as their octets; a shortest spelling is the only one of its number (a law of picky_asn1_bits)
 abbrev pub integer_contents : Contents (List ℕ)
 integer_contents = record { in_form = IsShortest; Octets = λ octets x. octets ≡ x; decode = integer_of }
 

@@ -6,6 +6,7 @@ mod fault;
 mod form;
 mod identifier;
 mod integer;
+pub mod laws;
 mod natural;
 mod octet_string;
 mod plain;

@@ -1,7 +1,7 @@
 // Each simple wrapper: made, changed, copied, written, read and given back.
 use crate::cases::bytes_of;
 use picky_asn1_bits::BitString;
-use picky_asn1_date::{GeneralizedTime, UTCTime};
+use picky_asn1_date::{DateError, GeneralizedTime, UTCTime};
 use picky_asn1_oid::ObjectIdentifier;
 use picky_asn1_tag::{CopyIn, Empty};
 use picky_asn1_text::{BmpString, Ia5String, NumericString, PrintableString, Utf8String};
@@ -144,6 +144,12 @@ fn dates(rt: HostRuntime) -> Result<(), Fail> {
     assert!(rt; UTCTime::from(utc) == UTCTime::new_unchecked(2049, 12, 31, 23, 59, 59));
     let late = UtcTimeAsn1::from(UTCTime::new_unchecked(2050, 1, 1, 0, 0, 0));
     assert!(rt; to_vec(alloc, &late).err() == Some(DerError::BadValue));
+    // A day that isn't in its month is read, and isn't in the calendar.
+    let day_31: UtcTimeAsn1 = from_bytes(
+        alloc,
+        &bytes_of(alloc, "17 0D 39 39 30 32 33 31 30 30 30 30 30 30 5A")?,
+    )?;
+    assert!(rt; day_31.to_civil().err() == Some(DateError::NoSuchDate));
     let year_zero = GeneralizedTimeAsn1::from(GeneralizedTime::new_unchecked(0, 1, 1, 0, 0, 0));
     is_written_as(
         &rt,

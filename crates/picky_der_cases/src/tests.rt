@@ -11,7 +11,9 @@ use picky_asn1_wrapper::{
     Asn1SequenceOf, Asn1SetOf, BitStringAsn1Container, ExplicitContextTag0, HeaderOnly,
     ImplicitContextTag0, OctetStringAsn1Container, Optional,
 };
-use picky_der::{Asn1RawDer, DerError, DerRead, DerReader, DerWrite, from_bytes, to_vec};
+use picky_der::{
+    Asn1RawDer, DerError, DerRead, DerReader, DerWrite, from_bytes, to_vec, write_value,
+};
 use std::alloc::Global;
 use std::process::Abort;
 use std::test::Fail;
@@ -231,7 +233,14 @@ fn a_default_is_left_out(rt: HostRuntime) -> Result<(), Fail> {
     let mut fields = Vec::new(alloc);
     Optional(Ten(10)).write_in(alloc, &mut fields)?;
     ExplicitContextTag0::from(5u8).write_der(alloc, &mut fields)?;
-    assert!(rt; fields.as_slice() == bytes_of(alloc, "A0 03 02 01 05")?.as_slice());
+    let mut whole = Vec::new(alloc);
+    write_value(&mut whole, Tag::SEQUENCE, &fields)?;
+    assert!(rt; whole.as_slice() == bytes_of(alloc, "30 05 A0 03 02 01 05")?.as_slice());
+    let mut inner = DerReader::new(&whole).nested(Tag::SEQUENCE)?;
+    let Optional(Ten(number)) = Optional::read_in(alloc, &mut inner)?;
+    let five: ExplicitContextTag0<u8> = ExplicitContextTag0::read_der(alloc, &mut inner)?;
+    inner.end()?;
+    assert!(rt; number == 10 && five.0 == 5);
     assert!(rt; Optional(Ten(10)).is_default(alloc)?);
     assert!(rt; !Optional(Ten(5)).is_default(alloc)?);
     Ok(())

@@ -18,11 +18,18 @@ bool_equal false false = (λ _. refl, λ _. refl)
 bool_equal true false = (λ h. absurd cc, λ e. absurd cc)
 bool_equal false true = (λ h. absurd cc, λ e. absurd cc)
 
+-- bytes beside a mark that holds nothing
+pub bytes_equal : (x y : List ℕ) → IsTrue (pointwise nat_eq x y && true) ↔ (x ≡ y)
+bytes_equal x y =
+    let bytes = bytes_decides x y in
+    let alone : (pointwise nat_eq x y && true) ≡ pointwise nat_eq x y = and-true (pointwise nat_eq x y) in
+    (λ h. bytes.0 (sym alone ∙ h), λ e. alone ∙ bytes.1 e)
+
 -- bytes beside marks that hold nothing
 pub strings_equal : (x y : List ℕ) → IsTrue ((pointwise nat_eq x y && true) && true) ↔ (x ≡ y)
 strings_equal x y =
-    let bytes = bytes_decides x y in
-    let alone : ((pointwise nat_eq x y && true) && true) ≡ pointwise nat_eq x y = and-true (pointwise nat_eq x y && true) ∙ and-true (pointwise nat_eq x y) in
+    let bytes = bytes_equal x y in
+    let alone : ((pointwise nat_eq x y && true) && true) ≡ (pointwise nat_eq x y && true) = and-true (pointwise nat_eq x y && true) in
     (λ h. bytes.0 (sym alone ∙ h), λ e. alone ∙ bytes.1 e)
 
 -- the six numbers of two dates are the same
@@ -41,12 +48,17 @@ numbers_decide x y =
     let last : Decides (nat_eq x.second y.second && true) (x.second ≡ y.second) = subst (λ (b : Bool). Decides b (x.second ≡ y.second)) (sym (and-true (nat_eq x.second y.second))) (Decides-eqb x.second y.second) in
     Decides-and _ _ (Decides-eqb x.year y.year) (Decides-and _ _ (Decides-eqb x.month y.month) (Decides-and _ _ (Decides-eqb x.day y.day) (Decides-and _ _ (Decides-eqb x.hour y.hour) (Decides-and _ _ (Decides-eqb x.minute y.minute) last))))
 
+pub numbers_equal : (x y : Moment) → IsTrue (same_numbers x y) ↔ (x ≡ y)
+numbers_equal x y =
+    let numbers = numbers_decide x y in
+    (λ h. same_moment x y (numbers.0 h), λ e. numbers.1 (rw e (refl, (refl, (refl, (refl, (refl, refl)))))))
+
 -- dates beside a mark that holds nothing
 pub dates_equal : (x y : Moment) → IsTrue (same_numbers x y && true) ↔ (x ≡ y)
 dates_equal x y =
     let alone : (same_numbers x y && true) ≡ same_numbers x y = and-true (same_numbers x y) in
-    let numbers = numbers_decide x y in
-    (λ h. same_moment x y (numbers.0 (sym alone ∙ h)), λ e. alone ∙ numbers.1 (rw e (refl, (refl, (refl, (refl, (refl, refl)))))))
+    let numbers = numbers_equal x y in
+    (λ h. numbers.0 (sym alone ∙ h), λ e. alone ∙ numbers.1 e)
 
 -- the empty list is the one default of lists
 pub one_default_list : {X M : Type 0} (meaning : X → M) (xs ys : List X) → xs ≡ [] → ((ys ≡ []) ↔ (map meaning xs ≡ map meaning ys))

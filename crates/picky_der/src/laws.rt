@@ -1,0 +1,13 @@
+//! What is proved of DER beside its calls.
+ghost use Rattle.std.specs.Prelude.{◌≡◌, ◌↔◌, IsTrue};
+ghost use Rattle.std.specs.declared.cmp.Ordering.TheVariants.{Equal};
+
+use crate::reader::TagPeeker;
+use std::hash::Hash;
+
+/// Peeked tags are equal where they are the same. Equal ones hash equally, and order and equality agree.
+pub fn tag_peekers_compare(peeker: TagPeeker, other: TagPeeker)
+    ensures same { IsTrue (⟦<TagPeeker as PartialEq>⟧.eq peeker other) ↔ (peeker ≡ other) }
+    ensures hash { IsTrue (⟦<TagPeeker as PartialEq>⟧.eq peeker other) → ⟦<TagPeeker as Hash>⟧.hash_input peeker ≡ ⟦<TagPeeker as Hash>⟧.hash_input other }
+    ensures order { IsTrue (⟦<TagPeeker as PartialEq>⟧.eq peeker other) ↔ (⟦<TagPeeker as Ord>⟧.cmp peeker other ≡ Equal) }
+{}
