@@ -158,8 +158,8 @@ def main():
         out.write("// Made by scripts/picky_der_types_table.py: a type, bytes, and whether python's `cryptography` reads them as a value\n")
         out.write("// of it, or why they are read here alone (the script says what each verdict means).\n")
         out.write('pub const TYPES: &str = "\\\n')
-        for line in lines:
-            out.write(line + "\\n\\\n")
+        for pair in zip(lines[::2], lines[1::2] + [""]):
+            out.write("".join(line + "\\n" for line in pair if line) + "\\\n")
         out.write('";\n\n')
         out.write("// Made by the same script: a type, the bytes that `openssl asn1parse -genstr` writes, and the text that it was given.\n")
         out.write('pub const WRITTEN: &str = "\\\n')
