@@ -1,5 +1,5 @@
--- What a cabinet and a sink in memory hold (own).
-use Rattle.std.specs.Prelude.{ℕ, List, refl}
+-- What a cabinet and a sink in memory hold, and what a fetch and a write make of it (own).
+use Rattle.std.specs.Prelude.{ℕ, ◌+◌, ◌-◌, ◌^◌, min, List, ◌++◌, length, take, refl}
 use Rattle.std.specs.Coded.{Coded, code_by, coded×, coded_list, coded_ℕ}
 use Rattle.std.specs.FinMap as finite
 use Rattle.picky_gate.specs.TextMap.{TextMap}
@@ -8,6 +8,10 @@ use Rattle.picky_gate.specs.TextMap.{TextMap}
 pub record Shelf : Type 0 where
   pub files : TextMap (List ℕ)
   pub faults : ℕ
+
+-- the count of faults after one more; it stays at its last value
+abbrev pub counted : ℕ → ℕ
+counted faults = min (faults + 1) (2 ^ 64 - 1)
 
 -- a shelf is stored as the pair of its fields
 abbrev pub shelf_code : Coded Shelf
@@ -20,3 +24,11 @@ pub record Filled : Type 0 where
   pub bytes : List ℕ
   pub room : ℕ
   pub faults : ℕ
+
+-- how many bytes of a piece are taken: all, or as many as there is room for
+abbrev pub taken : Filled → List ℕ → ℕ
+taken s piece = min (length piece) s.room
+
+-- after a piece: its first bytes stand after those before, and take up room
+abbrev pub filled : Filled → List ℕ → Filled
+filled s piece = record { bytes = s.bytes ++ take (taken s piece) piece; room = s.room - taken s piece; faults = s.faults }

@@ -1,7 +1,8 @@
 // Where documents come from.
-ghost use Rattle.std.specs.Prelude.{◌≡◌, ◌≤◌, ℕ, List, Option, Some, None, IfOk, OnOk, OnErr, IsOkUnless};
+ghost use Rattle.std.specs.Prelude.{◌≡◌, ◌≤◌, ◌+◌, ℕ, List, Option, Some, None, IfOk, OnOk, OnErr, IsErrOf, IsOkUnless, take};
 ghost use Rattle.std.specs.FinMap as finite;
 ghost use Rattle.picky_gate.specs.Outside.{IsFetched, FetchCause};
+ghost use Rattle.picky_gate.specs.Shelf.{counted};
 
 use crate::text_map::{look_up, put};
 use picky_contract::Bytes;
@@ -100,7 +101,20 @@ impl Cabinet for MemoryCabinet {
 
     ghost faults = { λ c. c.faults };
 
-    fn fetch(&mut self, alloc: Global, path: &str, limit: usize) -> Result<Vec<u8>, FetchFault> {
+    /// `Failed` exactly where the cabinet doesn't hold the path.
+    fn fetch(&mut self, alloc: Global, path: &str, limit: usize) -> Result<Vec<u8>, FetchFault>
+        ensures bytes { IfOk result (λ bytes. IsFetched (finite.get self.old.files path.now) limit bytes.items) }
+        ensures same { (p : List ℕ) → finite.get self.new.files p ≡ finite.get self.old.files p }
+        ensures cause { FetchCause self.old.faults self.new.faults result }
+
+        // Of a path that is held: its bytes or want of memory, and the cabinet is as before.
+        ensures held { (content : List ℕ) → finite.get self.old.files path.now ≡ Some content
+            → IfOk result (λ bytes. bytes.items ≡ take (limit + 1) content) × IsOkUnless result FetchFault.OutOfMemory × (self.new ≡ self.old) }
+
+        // Of any other path: a fault, which is counted.
+        ensures missing { finite.get self.old.files path.now ≡ None
+            → IsErrOf result FetchFault.Failed × (self.new ≡ record self.old { faults = counted self.old.faults }) }
+    {
         match look_up(&self.files, path) {
             Some(content) => first_bytes(alloc, content.as_slice(), limit),
             None => {

@@ -1,6 +1,7 @@
 // Where the output goes.
-ghost use Rattle.std.specs.Prelude.{◌≡◌, ◌≤◌, ◌<◌, ℕ, ◌++◌, ◌+◌, List, [], Option, Some, IfOk, OnOk, OnErr, length, take};
+ghost use Rattle.std.specs.Prelude.{◌≡◌, ◌⊎◌, ◌≤◌, ◌<◌, ℕ, ◌++◌, ◌+◌, List, [], Option, Some, IfOk, OnOk, OnErr, IsErr, IsOkAnd, length, take};
 ghost use Rattle.picky_gate.specs.Outside.{Adds, WriteCause};
+ghost use Rattle.picky_gate.specs.Shelf.{counted, taken, filled};
 
 use std::alloc::{AllocError, Global};
 use std::marker::Model;
@@ -98,7 +99,23 @@ impl Sink for MemorySink {
 
     ghost room = { λ s. s.room };
 
-    fn write(&mut self, bytes: &[u8]) -> Result<usize, Failed> {
+    /// `Failed` exactly where there is no room and the piece isn't empty.
+    fn write(&mut self, bytes: &[u8]) -> Result<usize, Failed>
+        ensures some { IfOk result (λ n. (n ≤ length bytes.now) × (0 < length bytes.now → 0 < n)) }
+        ensures added { IfOk result (λ n. Adds (Some self.old.bytes) (take n bytes.now) (Some self.new.bytes)) }
+        ensures room { IfOk result (λ n. self.old.room ≤ self.new.room + n) }
+        ensures full { OnErr result (0 < length bytes.now → self.old.room ≡ 0) }
+        ensures nothing { OnErr result (Some self.new.bytes ≡ Some self.old.bytes) }
+        ensures cause { WriteCause self.old.faults self.new.faults result }
+
+        // With room, or of an empty piece: the bytes that there is room for.
+        ensures taken { (0 < self.old.room) ⊎ (length bytes.now ≡ 0)
+            → IsOkAnd result (λ n. n ≡ taken self.old bytes.now) × (self.new ≡ filled self.old bytes.now) }
+
+        // Without room, of a piece that isn't empty: a fault, which is counted.
+        ensures failed { self.old.room ≡ 0 → 0 < length bytes.now
+            → IsErr result × (self.new ≡ record self.old { faults = counted self.old.faults }) }
+    {
         let count = bytes.len().min(self.room);
         if count == 0 && !bytes.is_empty() {
             self.faults = self.faults.saturating_add(1);
