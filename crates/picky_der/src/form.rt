@@ -31,7 +31,8 @@ pub trait DerWrite: DerForm {
     fn write_der(&self, alloc: Global, out: &mut Vec<u8>) -> Result<(), DerError>
         ensures { Writes (λ s. Self.form.Encodes s (Self.stands_for self.now)) (Self.form.Refused (Self.stands_for self.now)) result out.old.items out.new.items };
 
-    /// The laws of writing: one encoding a value, which is one value and a spelling of it.
+    /// The laws of writing: each value in form has an encoding below 2^64 bytes, the only one, which is one value and a
+    /// spelling of it.
     ghost writable: { Writable Self.form };
 }
 
@@ -62,6 +63,7 @@ pub trait DerTagged: Asn1Type + DerWrite + DerRead {
 /// `BadValue` where it has none.
 pub fn to_vec<T: DerWrite>(alloc: Global, value: &T) -> Result<Vec<u8>, DerError>
     ensures encoded { IfOk result (λ bytes. T.form.Encodes bytes.items (T.stands_for value.now)) }
+    ensures encoding { IfOk result (λ bytes. bytes.items ≡ T.form.encoding (T.stands_for value.now)) }
     ensures raw { IfOk result (λ bytes. raw_at bytes.items ≡ Ok (bytes.items, [])) }
     ensures refused { IfErr result (λ fault. (fault ≡ OutOfMemory) ⊎ ((fault ≡ BadValue) × T.form.Refused (T.stands_for value.now))) }
 {
