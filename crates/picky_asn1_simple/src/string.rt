@@ -150,7 +150,7 @@ impl<K: Asn1Type, C: DecidedSet> DerWrite for StringAsn1<K, C> {
         write_value(out, K::TAG, self.string.as_bytes())
     }
 
-    ghost writable = { tested_writable C.allows C.test C.decides K.TAG };
+    ghost writable = { tested_writable C.allows C.test C.decides K.TAG K.one_byte };
 }
 
 impl<K: Asn1Type, C: DecidedSet> DerTagged for StringAsn1<K, C> {

@@ -185,7 +185,7 @@ impl<K: Asn1Type, TR: DecidedTime> DerWrite for DateAsn1<K, TR> {
         write_value(out, K::TAG, &text)
     }
 
-    ghost writable = { time_writable TR.IsYear TR.is_year TR.text TR.numbers TR.decides TR.reads K.TAG };
+    ghost writable = { time_writable TR.IsYear TR.is_year TR.text TR.numbers TR.decides TR.reads K.TAG K.one_byte };
 }
 
 impl<K: Asn1Type, TR: DecidedTime> DerTagged for DateAsn1<K, TR> {

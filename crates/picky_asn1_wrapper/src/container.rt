@@ -128,7 +128,7 @@ impl<T: DerWrite> DerWrite for OctetStringAsn1Container<T> {
         write_value(out, Tag::OCTET_STRING, &contents)
     }
 
-    ghost writable = { enclosed_writable T.form T.writable (record { 0 = 4 }) };
+    ghost writable = { enclosed_writable T.form T.writable (record { 0 = 4 }) (λ h. absurd (Prim.omega arith)) };
 }
 
 impl<T: DerRead + DerWrite + Drop> DerTagged for OctetStringAsn1Container<T> {
@@ -247,7 +247,7 @@ impl<T: DerWrite> DerWrite for BitStringAsn1Container<T> {
         write_value(out, Tag::BIT_STRING, &contents)
     }
 
-    ghost writable = { bits_writable T.form T.writable (record { 0 = 3 }) };
+    ghost writable = { bits_writable T.form T.writable (record { 0 = 3 }) (λ h. absurd (Prim.omega arith)) };
 }
 
 impl<T: DerRead + DerWrite + Drop> DerTagged for BitStringAsn1Container<T> {

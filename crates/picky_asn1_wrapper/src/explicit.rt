@@ -124,7 +124,7 @@ impl<const N: u8, T: DerWrite> DerWrite for ExplicitContextTag<N, T> {
         write_value(out, Self::TAG, &contents)
     }
 
-    ghost writable = { enclosed_writable T.form T.writable (explicit_tag N) };
+    ghost writable = { enclosed_writable T.form T.writable (explicit_tag N) (explicit_one_byte N) };
 }
 
 impl<const N: u8, T: DerRead + DerWrite + Drop> DerTagged for ExplicitContextTag<N, T> {

@@ -86,7 +86,7 @@ impl<T: Asn1Type> DerWrite for HeaderOnly<T> {
         write_value(out, T::TAG, &[])
     }
 
-    ghost writable = { header_writable T.TAG };
+    ghost writable = { header_writable T.TAG T.one_byte };
 }
 
 impl<T: Asn1Type> DerTagged for HeaderOnly<T> {

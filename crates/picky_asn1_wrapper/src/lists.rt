@@ -161,7 +161,7 @@ impl<T: DerWrite> DerWrite for Asn1SequenceOf<T> {
         write_value(out, Tag::SEQUENCE, &contents)
     }
 
-    ghost writable = { list_writable T.form T.writable (record { 0 = 48 }) };
+    ghost writable = { list_writable T.form T.writable (record { 0 = 48 }) (λ h. absurd (Prim.omega arith)) };
 }
 
 impl<T: DerRead + DerWrite + Drop> DerTagged for Asn1SequenceOf<T> {
@@ -316,7 +316,7 @@ impl<T: DerWrite> DerWrite for Asn1SetOf<T> {
         write_value(out, Tag::SET, &contents)
     }
 
-    ghost writable = { list_writable T.form T.writable (record { 0 = 49 }) };
+    ghost writable = { list_writable T.form T.writable (record { 0 = 49 }) (λ h. absurd (Prim.omega arith)) };
 }
 
 impl<T: DerRead + DerWrite + Drop> DerTagged for Asn1SetOf<T> {
