@@ -24,7 +24,7 @@ pub record Decodes {X : Type 0} (k : Contents X) : Type 0 where
   -- octets that stand for a value are decoded to it
   pub again : (octets : List ℕ) (x : X) → k.in_form x → k.Octets octets x → k.decode octets ≡ Ok x
   -- the octets of a value in form stand for it
-  pub octets_of : (x : X) → k.in_form x → k.Octets (k.octets x) x
+  pub has_octets : (x : X) → k.in_form x → k.Octets (k.octets x) x
   -- a value has one list of octets
   pub one : (s t : List ℕ) (x : X) → k.in_form x → k.Octets s x → k.Octets t x → s ≡ t
 

@@ -43,7 +43,7 @@ bits_decodes : Decodes bits_contents
 bits_decodes = record {
   takes = λ octets x _ e. bits_done octets x e;
   again = bits_back;
-  octets_of = λ _ _. refl;
+  has_octets = λ _ _. refl;
   one = λ s t x _ p q. p ∙ sym q;
 }
 

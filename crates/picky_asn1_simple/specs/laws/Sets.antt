@@ -35,7 +35,7 @@ module _ (InSet : List ℕ → Type 0) (test : List ℕ → Bool) (decides : (oc
   tested_decodes = record {
     takes = λ octets x _ e. tested_done octets x e;
     again = tested_back;
-    octets_of = λ _ _. refl;
+    has_octets = λ _ _. refl;
     one = λ s t x _ p q. p ∙ sym q;
   }
 

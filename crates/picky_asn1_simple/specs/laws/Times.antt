@@ -64,7 +64,7 @@ module _ (IsYear : ℕ → Type 0) (is_year : ℕ → Bool) (text : Moment → L
     time_decodes = record {
       takes = λ octets m _ e. time_takes octets m e;
       again = time_again;
-      octets_of = λ _ _. refl;
+      has_octets = λ _ _. refl;
       one = λ s t m _ p q. p ∙ sym q;
     }
 

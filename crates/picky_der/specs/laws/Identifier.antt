@@ -102,7 +102,7 @@ identifier_decodes : Decodes identifier_contents
 identifier_decodes = record {
   takes = λ octets arcs _ e. identifier_done octets arcs e;
   again = identifier_back;
-  octets_of = λ _ _. refl;
+  has_octets = λ _ _. refl;
   one = λ s t arcs _ p q. p ∙ sym q;
 }
 

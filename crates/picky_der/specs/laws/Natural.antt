@@ -190,7 +190,7 @@ natural_decodes : (limit : ℕ) → Decodes (natural_contents limit)
 natural_decodes limit = record {
   takes = natural_done limit;
   again = natural_back limit;
-  octets_of = λ n _. natural-octets n;
+  has_octets = λ n _. natural-octets n;
   one = λ s t n _ p q. natural-one s t n p q;
 }
 

@@ -18,7 +18,7 @@ pub null_decodes : Decodes null_contents
 null_decodes = record {
   takes = λ octets x _ e. (tt, null_done octets x e);
   again = λ octets x _ p. rw p refl;
-  octets_of = λ _ _. refl;
+  has_octets = λ _ _. refl;
   one = λ s t x _ p q. p ∙ sym q;
 }
 
@@ -42,7 +42,7 @@ pub bool_decodes : Decodes bool_contents
 bool_decodes = record {
   takes = λ octets x _ e. (tt, bool_done octets x e);
   again = λ octets x _ p. rw p (bool_back x);
-  octets_of = λ _ _. refl;
+  has_octets = λ _ _. refl;
   one = λ s t x _ p q. p ∙ sym q;
 }
 
@@ -59,7 +59,7 @@ pub utf8_decodes : Decodes utf8_contents
 utf8_decodes = record {
   takes = λ octets x _ e. utf8_done octets x e;
   again = utf8_back;
-  octets_of = λ _ _. refl;
+  has_octets = λ _ _. refl;
   one = λ s t x _ p q. p ∙ sym q;
 }
 

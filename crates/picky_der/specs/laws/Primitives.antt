@@ -55,8 +55,8 @@ module _ {X : Type 0} (tag : Tag) (k : Contents X) (law : Decodes k) where
   primitive_writable one_byte = record {
     encodes = λ s x _ p. p.1;
     written = λ s x p. record { tag = tag; contents = p.1.octets; value = p.1.value };
-    is_encoding = λ s x p. p.1.value.bytes_are ∙ ap (value_of tag.0) (law.one p.1.octets (k.octets x) x p.0 p.1.stands_for (law.octets_of x p.0));
-    has_encoding = λ x f fits. (f, record { octets = k.octets x; value = IsValue-of tag (k.octets x) one_byte fits; stands_for = law.octets_of x f });
+    is_encoding = λ s x p. p.1.value.bytes_are ∙ ap (value_of tag.0) (law.one p.1.octets (k.octets x) x p.0 p.1.stands_for (law.has_octets x p.0));
+    has_encoding = λ x f fits. (f, record { octets = k.octets x; value = IsValue-of tag (k.octets x) one_byte fits; stands_for = law.has_octets x f });
     not_refused = λ s x p r. r p.0;
     accepted = λ x f r. r f;
   }

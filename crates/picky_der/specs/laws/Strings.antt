@@ -65,7 +65,7 @@ integer_decodes : Decodes integer_contents
 integer_decodes = record {
   takes = λ octets x _ e. integer_done octets x e;
   again = integer_back;
-  octets_of = λ _ _. refl;
+  has_octets = λ _ _. refl;
   one = λ s t x _ p q. p ∙ sym q;
 }
 
@@ -73,7 +73,7 @@ octets_decodes : Decodes octets_contents
 octets_decodes = record {
   takes = λ octets x _ e. (tt, ok_is octets x e);
   again = λ octets x _ p. rw p refl;
-  octets_of = λ _ _. refl;
+  has_octets = λ _ _. refl;
   one = λ s t x _ p q. p ∙ sym q;
 }
 
