@@ -7,12 +7,12 @@ ghost use Rattle.picky_der.specs.Form.{Form, Readable, Writable, Tagged, Writes,
 
 use crate::fault::DerError;
 use crate::reader::DerReader;
-use picky_asn1_tag::{Asn1Type, Tag};
+use picky_asn1_tag::{Asn1Type, Asn1Value, Tag};
 use std::alloc::Global;
 
 /// What a type is as DER: its abstract values, which of them are in form, what spells them, what is written and
 /// what is read. The laws between these are members of [`DerRead`] and [`DerWrite`].
-pub trait DerForm {
+pub trait DerForm: Asn1Value {
     /// The type of the abstract values.
     ghost Abstract: { Type 0 };
 
@@ -21,6 +21,9 @@ pub trait DerForm {
 
     /// What the abstract values are as DER.
     ghost form: { Form Abstract };
+
+    /// Values that mean the same stand for the same abstract value.
+    ghost same_value: { (x y : Self) → Self.meaning x ≡ Self.meaning y → stands_for x ≡ stands_for y };
 }
 
 /// A type whose values are written as DER.
