@@ -115,6 +115,8 @@ impl<K: Asn1Type, C: DecidedSet> DerForm for StringAsn1<K, C> {
     ghost stands_for = { λ wrapped. wrapped.string };
 
     ghost form = { primitive_form K.TAG (tested_contents C.allows C.test) };
+
+    ghost same_value = { λ _ _ e. e };
 }
 
 // The octets, where they are in the set.

@@ -137,6 +137,8 @@ impl<K: Asn1Type, TR: DecidedTime> DerForm for DateAsn1<K, TR> {
     ghost stands_for = { λ wrapped. wrapped.date };
 
     ghost form = { primitive_form K.TAG (time_contents TR.IsYear TR.is_year TR.text TR.numbers) };
+
+    ghost same_value = { λ _ _ e. e };
 }
 
 // The date whose text the octets are.

@@ -94,6 +94,8 @@ impl<const N: u8, T: DerForm> DerForm for ExplicitContextTag<N, T> {
     ghost stands_for = { λ tagged. T.stands_for tagged.0 };
 
     ghost form = { enclosed_form (explicit_tag N) T.form };
+
+    ghost same_value = { λ x y e. T.same_value x.0 y.0 e };
 }
 
 impl<const N: u8, T: DerRead + Drop> DerRead for ExplicitContextTag<N, T> {

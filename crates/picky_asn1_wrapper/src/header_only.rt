@@ -54,6 +54,8 @@ impl<T: Asn1Type> DerForm for HeaderOnly<T> {
     ghost stands_for = { λ _. tt };
 
     ghost form = { primitive_form T.TAG null_contents };
+
+    ghost same_value = { λ _ _ e. e };
 }
 
 fn nothing_from(octets: &[u8]) -> Result<(), DerError>

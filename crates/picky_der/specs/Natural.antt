@@ -28,12 +28,12 @@ natural_of limit (b ∷ bs) =
     if nat_le 128 b || redundant b bs then Err BadValue
     else if nat_lt (number_of (b ∷ bs)) limit then Ok (number_of (b ∷ bs)) else Err BadValue
 
--- the fewest octets of a number, where `most` is at least the number: those of its 256th part, and one more
+-- one octet of a number below 128, else the octets of its 256th part and one more; `most` bounds how often it is divided
 abbrev pub octets_within : ℕ → ℕ → List ℕ
 octets_within zero n = n ∷ []
 octets_within (suc most) n = if nat_lt n 128 then n ∷ [] else octets_within most (n / 256) ++ n % 256 ∷ []
 
--- the octets of a number
+-- the octets of a number, in the fewest
 abbrev pub natural_octets : ℕ → List ℕ
 natural_octets n = octets_within n n
 

@@ -10,8 +10,8 @@ use crate::reader::DerReader;
 use picky_asn1_tag::{Asn1Type, Asn1Value, Tag};
 use std::alloc::Global;
 
-/// What a type is as DER: its abstract values, which of them are in form, what spells them, what is written and
-/// what is read. The laws between these are members of [`DerRead`] and [`DerWrite`].
+/// What a type is as DER: its abstract values, which of them are in form, what spells them, their encodings, what is
+/// written and what is read. The laws between these are members of [`DerRead`] and [`DerWrite`].
 pub trait DerForm: Asn1Value {
     /// The type of the abstract values.
     ghost Abstract: { Type 0 };
@@ -34,8 +34,8 @@ pub trait DerWrite: DerForm {
     fn write_der(&self, alloc: Global, out: &mut Vec<u8>) -> Result<(), DerError>
         ensures { Writes (λ s. Self.form.Encodes s (Self.stands_for self.now)) (Self.form.Refused (Self.stands_for self.now)) result out.old.items out.new.items };
 
-    /// The laws of writing: each value in form has an encoding below 2^64 bytes, the only one, which is one value and a
-    /// spelling of it.
+    /// The laws of writing: each value in form whose encoding fits 2^64 bytes is written, as its encoding alone, which is
+    /// one value and a spelling of it.
     ghost writable: { Writable Self.form };
 }
 

@@ -13,7 +13,7 @@ pub fn tag_peekers_compare(peeker: TagPeeker, other: TagPeeker)
     ensures order { IsTrue (⟦<TagPeeker as PartialEq>⟧.eq peeker other) ↔ (⟦<TagPeeker as Ord>⟧.cmp peeker other ≡ Equal) }
 {}
 
-/// Values that mean the same have the same encoding.
+/// Values that mean the same, as a value and its copy, have the same encoding.
 pub fn values_of_one_meaning_are_written_alike<T: DerWrite>(value: &T, other: &T)
     ensures { T.meaning value.now ≡ T.meaning other.now → T.form.encoding (T.stands_for value.now) ≡ T.form.encoding (T.stands_for other.now) }
 {}
