@@ -23,4 +23,4 @@ bits_of octets = tested_of is_counted octets >>= held
 
 -- the contents of BIT STRING; unused bits are taken as they stand, and needn't be zero as X.690 section 11.2 asks
 abbrev pub bits_contents : Contents (List ℕ)
-bits_contents = record { in_form = IsBitString; Octets = λ octets x. octets ≡ x; decode = bits_of }
+bits_contents = record { in_form = IsBitString; Octets = λ octets x. octets ≡ x; octets = λ x. x; decode = bits_of }

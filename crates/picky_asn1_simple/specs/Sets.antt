@@ -12,7 +12,7 @@ tested_of test octets = if test octets then Ok octets else Err BadValue
 
 -- the octets of a set, which a test decides
 abbrev pub tested_contents : (List ℕ → Type 0) → (List ℕ → Bool) → Contents (List ℕ)
-tested_contents InSet test = record { in_form = InSet; Octets = λ octets x. octets ≡ x; decode = tested_of test }
+tested_contents InSet test = record { in_form = InSet; Octets = λ octets x. octets ≡ x; octets = λ x. x; decode = tested_of test }
 
 -- whether each octet is 00 to 7F
 abbrev pub is_ia5 : List ℕ → Bool

@@ -26,6 +26,7 @@ abbrev pub time_contents : (ℕ → Type 0) → (ℕ → Bool) → (Moment → L
 time_contents IsYear is_year text numbers = record {
   in_form = λ m. IsYear m.year × IsMoment m;
   Octets = λ octets m. octets ≡ text m;
+  octets = text;
   decode = time_of is_year text numbers;
 }
 

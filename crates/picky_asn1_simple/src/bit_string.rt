@@ -114,6 +114,8 @@ impl DerForm for BitStringAsn1 {
     ghost stands_for = { λ wrapped. wrapped.0 };
 
     ghost form = { primitive_form (record { 0 = 3 }) bits_contents };
+
+    ghost same_value = { λ _ _ e. e };
 }
 
 // The count of unused bits and the payload.

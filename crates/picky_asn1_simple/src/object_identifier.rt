@@ -100,6 +100,8 @@ impl DerForm for ObjectIdentifierAsn1 {
     ghost stands_for = { λ wrapped. wrapped.0 };
 
     ghost form = { primitive_form (record { 0 = 6 }) identifier_contents };
+
+    ghost same_value = { λ _ _ e. e };
 }
 
 impl DerRead for ObjectIdentifierAsn1 {

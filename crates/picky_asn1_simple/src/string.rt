@@ -115,6 +115,8 @@ impl<K: Asn1Type, C: DecidedSet> DerForm for StringAsn1<K, C> {
     ghost stands_for = { λ wrapped. wrapped.string };
 
     ghost form = { primitive_form K.TAG (tested_contents C.allows C.test) };
+
+    ghost same_value = { λ _ _ e. e };
 }
 
 // The octets, where they are in the set.
@@ -150,7 +152,7 @@ impl<K: Asn1Type, C: DecidedSet> DerWrite for StringAsn1<K, C> {
         write_value(out, K::TAG, self.string.as_bytes())
     }
 
-    ghost writable = { tested_writable C.allows C.test C.decides K.TAG };
+    ghost writable = { tested_writable C.allows C.test C.decides K.TAG K.one_byte };
 }
 
 impl<K: Asn1Type, C: DecidedSet> DerTagged for StringAsn1<K, C> {

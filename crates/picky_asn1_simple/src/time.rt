@@ -137,6 +137,8 @@ impl<K: Asn1Type, TR: DecidedTime> DerForm for DateAsn1<K, TR> {
     ghost stands_for = { λ wrapped. wrapped.date };
 
     ghost form = { primitive_form K.TAG (time_contents TR.IsYear TR.is_year TR.text TR.numbers) };
+
+    ghost same_value = { λ _ _ e. e };
 }
 
 // The date whose text the octets are.
@@ -185,7 +187,7 @@ impl<K: Asn1Type, TR: DecidedTime> DerWrite for DateAsn1<K, TR> {
         write_value(out, K::TAG, &text)
     }
 
-    ghost writable = { time_writable TR.IsYear TR.is_year TR.text TR.numbers TR.decides TR.reads K.TAG };
+    ghost writable = { time_writable TR.IsYear TR.is_year TR.text TR.numbers TR.decides TR.reads K.TAG K.one_byte };
 }
 
 impl<K: Asn1Type, TR: DecidedTime> DerTagged for DateAsn1<K, TR> {

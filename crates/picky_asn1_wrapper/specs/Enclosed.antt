@@ -2,6 +2,7 @@
 use Rattle.std.specs.Prelude.{ℕ, ◌+◌, ◌%◌, ◌==◌, List, ◌∷◌, Result, Ok}
 use Rattle.picky_asn1_tag.specs.declared.tag.Tag.{Tag}
 use Rattle.picky_der.specs.declared.fault.DerError.{DerError}
+use Rattle.picky_der.specs.Length.{value_of}
 use Rattle.picky_der.specs.Reading.{◌>>=◌, nested_at, nested_bits_at, end_at}
 use Rattle.picky_der.specs.Form.{Form, IsValue}
 
@@ -32,6 +33,7 @@ enclosed_form tag f = record {
   in_form = f.in_form;
   Spells = SpellsEnclosed tag f.Spells;
   Encodes = SpellsEnclosed tag f.Encodes;
+  encoding = λ x. value_of tag.0 (f.encoding x);
   Refused = f.Refused;
   begins = λ b. b == tag.0;
   reading = enclosed_at tag f.reading;
@@ -53,6 +55,7 @@ bits_form tag f = record {
   in_form = f.in_form;
   Spells = SpellsBits tag f.Spells;
   Encodes = SpellsBits tag f.Encodes;
+  encoding = λ x. value_of tag.0 (0 ∷ f.encoding x);
   Refused = f.Refused;
   begins = λ b. b == tag.0;
   reading = bits_at tag f.reading;

@@ -22,6 +22,7 @@ implicit_form outer inner f = record {
   in_form = f.in_form;
   Spells = SpellsImplicit outer f.Spells;
   Encodes = SpellsImplicit outer f.Encodes;
+  encoding = λ x. outer.0 ∷ drop 1 (f.encoding x);
   Refused = f.Refused;
   begins = λ b. b == outer.0;
   reading = implicit_at outer inner f.reading;

@@ -98,6 +98,8 @@ impl<T: DerForm> DerForm for OctetStringAsn1Container<T> {
     ghost stands_for = { λ container. T.stands_for container.0 };
 
     ghost form = { enclosed_form (record { 0 = 4 }) T.form };
+
+    ghost same_value = { λ x y e. T.same_value x.0 y.0 e };
 }
 
 impl<T: DerRead + Drop> DerRead for OctetStringAsn1Container<T> {
@@ -128,7 +130,7 @@ impl<T: DerWrite> DerWrite for OctetStringAsn1Container<T> {
         write_value(out, Tag::OCTET_STRING, &contents)
     }
 
-    ghost writable = { enclosed_writable T.form T.writable (record { 0 = 4 }) };
+    ghost writable = { enclosed_writable T.form T.writable (record { 0 = 4 }) (λ h. absurd (Prim.omega arith)) };
 }
 
 impl<T: DerRead + DerWrite + Drop> DerTagged for OctetStringAsn1Container<T> {
@@ -216,6 +218,8 @@ impl<T: DerForm> DerForm for BitStringAsn1Container<T> {
     ghost stands_for = { λ container. T.stands_for container.0 };
 
     ghost form = { bits_form (record { 0 = 3 }) T.form };
+
+    ghost same_value = { λ x y e. T.same_value x.0 y.0 e };
 }
 
 impl<T: DerRead + Drop> DerRead for BitStringAsn1Container<T> {
@@ -247,7 +251,7 @@ impl<T: DerWrite> DerWrite for BitStringAsn1Container<T> {
         write_value(out, Tag::BIT_STRING, &contents)
     }
 
-    ghost writable = { bits_writable T.form T.writable (record { 0 = 3 }) };
+    ghost writable = { bits_writable T.form T.writable (record { 0 = 3 }) (λ h. absurd (Prim.omega arith)) };
 }
 
 impl<T: DerRead + DerWrite + Drop> DerTagged for BitStringAsn1Container<T> {

@@ -94,6 +94,8 @@ impl<const N: u8, T: DerForm> DerForm for ExplicitContextTag<N, T> {
     ghost stands_for = { λ tagged. T.stands_for tagged.0 };
 
     ghost form = { enclosed_form (explicit_tag N) T.form };
+
+    ghost same_value = { λ x y e. T.same_value x.0 y.0 e };
 }
 
 impl<const N: u8, T: DerRead + Drop> DerRead for ExplicitContextTag<N, T> {
@@ -124,7 +126,7 @@ impl<const N: u8, T: DerWrite> DerWrite for ExplicitContextTag<N, T> {
         write_value(out, Self::TAG, &contents)
     }
 
-    ghost writable = { enclosed_writable T.form T.writable (explicit_tag N) };
+    ghost writable = { enclosed_writable T.form T.writable (explicit_tag N) (explicit_one_byte N) };
 }
 
 impl<const N: u8, T: DerRead + DerWrite + Drop> DerTagged for ExplicitContextTag<N, T> {

@@ -54,6 +54,8 @@ impl<T: Asn1Type> DerForm for HeaderOnly<T> {
     ghost stands_for = { λ _. tt };
 
     ghost form = { primitive_form T.TAG null_contents };
+
+    ghost same_value = { λ _ _ e. e };
 }
 
 fn nothing_from(octets: &[u8]) -> Result<(), DerError>
@@ -86,7 +88,7 @@ impl<T: Asn1Type> DerWrite for HeaderOnly<T> {
         write_value(out, T::TAG, &[])
     }
 
-    ghost writable = { header_writable T.TAG };
+    ghost writable = { header_writable T.TAG T.one_byte };
 }
 
 impl<T: Asn1Type> DerTagged for HeaderOnly<T> {

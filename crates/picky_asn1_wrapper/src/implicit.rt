@@ -97,6 +97,8 @@ impl<const N: u8, T: DerTagged> DerForm for ImplicitContextTag<N, T> {
     ghost stands_for = { λ tagged. T.stands_for tagged.0 };
 
     ghost form = { implicit_form (implicit_tag N) T.TAG T.form };
+
+    ghost same_value = { λ x y e. T.same_value x.0 y.0 e };
 }
 
 // The contents as a value of T's tag.

@@ -10,7 +10,8 @@ use crate::header_only::HeaderOnly;
 use crate::implicit::ImplicitContextTag;
 use crate::lists::{Asn1SequenceOf, Asn1SetOf};
 use crate::optional::Optional;
-use picky_asn1_tag::Asn1Type;
+use picky_asn1_tag::{Asn1Type, Empty};
+use picky_der::DerRead;
 use std::hash::Hash;
 
 /// Values of a type with `EqualMeaning` are equal exactly where they mean the same.
@@ -85,6 +86,11 @@ pub fn optional_fields_hash<T: PartialEq + Hash>(optional: &Optional<T>, other: 
     ensures inner { ⟦<Optional<T> as Hash>⟧.hash_input optional.now ≡ T.hash_input optional.now.0 }
     ensures equal { IsTrue (⟦<Optional<T> as PartialEq>⟧.eq optional.now other.now)
         → ⟦<Optional<T> as Hash>⟧.hash_input optional.now ≡ ⟦<Optional<T> as Hash>⟧.hash_input other.now }
+{}
+
+/// Optional fields that hold the default stand for one value, so what `write_in` leaves out is what `read_in` gives back.
+pub fn defaults_stand_for_one_value<T: Empty + DerRead>(optional: &Optional<T>, other: &Optional<T>)
+    ensures { T.IsDefault optional.now.0 → T.IsDefault other.now.0 → T.stands_for optional.now.0 ≡ T.stands_for other.now.0 }
 {}
 
 /// Lists under SEQUENCE are equal where they are as long and each item equals that at its place.

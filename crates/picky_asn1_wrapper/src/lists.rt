@@ -2,7 +2,7 @@
 ghost use Rattle.std.specs.Prelude.{◌≡◌, List, [], map, IfOk};
 ghost use Rattle.std.specs.Cmp.Lexicographic.{pointwise, lists_per, lists_equiv};
 ghost use Rattle.picky_asn1_wrapper.specs.Lists.{list_form, list_at};
-ghost use Rattle.picky_asn1_wrapper.specs.laws.Equal.{one_default_list};
+ghost use Rattle.picky_asn1_wrapper.specs.laws.Equal.{one_default_list, lists_same_value};
 ghost use Rattle.picky_asn1_wrapper.specs.laws.Lists.{list_readable, list_writable, list_tagged};
 ghost use Rattle.std.proofs.Common.{arith};
 
@@ -135,6 +135,8 @@ impl<T: DerForm> DerForm for Asn1SequenceOf<T> {
     ghost stands_for = { λ s. map T.stands_for s };
 
     ghost form = { list_form (record { 0 = 48 }) T.form };
+
+    ghost same_value = { lists_same_value T.meaning T.stands_for T.same_value };
 }
 
 impl<T: DerRead + Drop> DerRead for Asn1SequenceOf<T> {
@@ -161,7 +163,7 @@ impl<T: DerWrite> DerWrite for Asn1SequenceOf<T> {
         write_value(out, Tag::SEQUENCE, &contents)
     }
 
-    ghost writable = { list_writable T.form T.writable (record { 0 = 48 }) };
+    ghost writable = { list_writable T.form T.writable (record { 0 = 48 }) (λ h. absurd (Prim.omega arith)) };
 }
 
 impl<T: DerRead + DerWrite + Drop> DerTagged for Asn1SequenceOf<T> {
@@ -290,6 +292,8 @@ impl<T: DerForm> DerForm for Asn1SetOf<T> {
     ghost stands_for = { λ s. map T.stands_for s };
 
     ghost form = { list_form (record { 0 = 49 }) T.form };
+
+    ghost same_value = { lists_same_value T.meaning T.stands_for T.same_value };
 }
 
 impl<T: DerRead + Drop> DerRead for Asn1SetOf<T> {
@@ -316,7 +320,7 @@ impl<T: DerWrite> DerWrite for Asn1SetOf<T> {
         write_value(out, Tag::SET, &contents)
     }
 
-    ghost writable = { list_writable T.form T.writable (record { 0 = 49 }) };
+    ghost writable = { list_writable T.form T.writable (record { 0 = 49 }) (λ h. absurd (Prim.omega arith)) };
 }
 
 impl<T: DerRead + DerWrite + Drop> DerTagged for Asn1SetOf<T> {

@@ -1,8 +1,9 @@
 -- AlgorithmIdentifier: a SEQUENCE of an OBJECT IDENTIFIER and any one value, which may be absent (RFC 5280 section 4.1.1.2).
 use Rattle.std.specs.Prelude.{ℕ, ◌+◌, ◌==◌, List, [], ◌∷◌, ◌++◌, Option, Some, None, Result, Ok, IfSome}
-use Rattle.picky_asn1_oid.specs.Arcs.{IsArcs}
+use Rattle.picky_asn1_oid.specs.Arcs.{IsArcs, contents_of}
 use Rattle.picky_der.specs.declared.fault.DerError.{DerError}
 use Rattle.picky_der.specs.declared.algorithm.AlgorithmIdentifier.{AlgorithmIdentifier}
+use Rattle.picky_der.specs.Length.{value_of}
 use Rattle.picky_der.specs.Reading.{◌>>=◌, nested_at, raw_at, end_at}
 use Rattle.picky_der.specs.Form.{Form, IsValue, IsOneValue}
 use Rattle.picky_der.specs.Primitive.{SpellsPrimitive, primitive_at}
@@ -43,6 +44,7 @@ algorithm_form = record {
   in_form = IsAlgorithm;
   Spells = SpellsAlgorithm;
   Encodes = λ s a. IsAlgorithm a × SpellsAlgorithm s a;
+  encoding = λ a. value_of 48 (value_of 6 (contents_of a.oid) ++ parameters_bytes a.parameters);
   Refused = λ a. ¬ IsAlgorithm a;
   begins = λ b. b == 48;
   reading = algorithm_at;

@@ -1,4 +1,4 @@
--- What the values of a type are as DER: which are in form, what spells them, what is written and what is read (X.690 sections 8.1.1 and 10; the laws are own).
+-- What the values of a type are as DER: which are in form, what spells them, their encodings, what is written and what is read (X.690 sections 8.1.1 and 10; the laws are own).
 use Rattle.std.specs.Prelude.{◌≡◌, ◌≢◌, ℕ, ◌%◌, ◌<◌, ◌^◌, ◌==◌, Bool, true, List, [], ◌∷◌, ◌++◌, length, Result, Ok, Err, ◌⊎◌}
 use Rattle.picky_asn1_tag.specs.declared.tag.Tag.{Tag}
 use Rattle.picky_der.specs.declared.fault.DerError.{DerError}
@@ -35,6 +35,8 @@ pub record Form (X : Type 0) : Type 1 where
   pub Spells : List ℕ → X → Type 0
   -- the bytes are the encoding of the value, which is written
   pub Encodes : List ℕ → X → Type 0
+  -- the encoding of a value: tag, length and contents; it counts for values in form, and others that are written, whose encoding is shorter than 2^64 bytes
+  pub encoding : X → List ℕ
   -- the value is refused when it is written, whatever memory there is
   pub Refused : X → Type 0
   -- the tags by which a spelling may begin
@@ -74,8 +76,10 @@ pub record Writable {X : Type 0} (f : Form X) : Type 0 where
   pub encodes : (s : List ℕ) (x : X) → f.in_form x → f.Encodes s x → f.Spells s x
   -- an encoding is one value
   pub written : (s : List ℕ) (x : X) → f.Encodes s x → IsOneValue s
-  -- a value has one encoding
-  pub one_encoding : (s t : List ℕ) (x : X) → f.Encodes s x → f.Encodes t x → s ≡ t
+  -- what is written is the encoding of the value, so that no value has two
+  pub is_encoding : (s : List ℕ) (x : X) → f.Encodes s x → s ≡ f.encoding x
+  -- each value in form is written, but one whose encoding doesn't fit 2^64 bytes
+  pub has_encoding : (x : X) → f.in_form x → length (f.encoding x) < 2 ^ 64 → f.Encodes (f.encoding x) x
   -- a value that has an encoding isn't refused
   pub not_refused : (s : List ℕ) (x : X) → f.Encodes s x → f.Refused x → ⊥
   -- a value in form isn't refused

@@ -34,4 +34,4 @@ abbrev pub identifier_of : List ℕ → Result (List ℕ) DerError
 identifier_of octets = if is_identifier octets then Ok (arcs_in octets) else Err BadValue
 
 abbrev pub identifier_contents : Contents (List ℕ)
-identifier_contents = record { in_form = IsArcs; Octets = λ octets arcs. octets ≡ contents_of arcs; decode = identifier_of }
+identifier_contents = record { in_form = IsArcs; Octets = λ octets arcs. octets ≡ contents_of arcs; octets = contents_of; decode = identifier_of }

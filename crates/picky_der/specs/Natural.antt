@@ -1,5 +1,5 @@
 -- The contents octets of an INTEGER that is at least zero (X.690 sections 8.3.1 to 8.3.3), and which of them a type reads.
-use Rattle.std.specs.Prelude.{◌≡◌, ℕ, ◌==◌, ◌<◌, ◌≤◌, ◌||◌, ◌&&◌, Bool, false, if◌then◌else◌, nat_lt, nat_le, List, [], ◌∷◌, length, slice_index, Result, Ok, Err}
+use Rattle.std.specs.Prelude.{◌≡◌, ℕ, zero, suc, ◌/◌, ◌%◌, ◌==◌, ◌<◌, ◌≤◌, ◌||◌, ◌&&◌, Bool, false, if◌then◌else◌, nat_lt, nat_le, List, [], ◌∷◌, ◌++◌, length, slice_index, Result, Ok, Err}
 use Rattle.picky_der.specs.declared.fault.DerError.{DerError}
 use Rattle.picky_der.specs.declared.fault.DerError.TheVariants.{BadValue}
 use Rattle.picky_der.specs.Length.{IsBytes, number_of}
@@ -28,6 +28,15 @@ natural_of limit (b ∷ bs) =
     if nat_le 128 b || redundant b bs then Err BadValue
     else if nat_lt (number_of (b ∷ bs)) limit then Ok (number_of (b ∷ bs)) else Err BadValue
 
+-- one octet of a number below 128, else the octets of its 256th part and one more; `most` bounds how often it is divided
+abbrev pub octets_within : ℕ → ℕ → List ℕ
+octets_within zero n = n ∷ []
+octets_within (suc most) n = if nat_lt n 128 then n ∷ [] else octets_within most (n / 256) ++ n % 256 ∷ []
+
+-- the octets of a number, in the fewest
+abbrev pub natural_octets : ℕ → List ℕ
+natural_octets n = octets_within n n
+
 -- an INTEGER of a type whose numbers are those below the limit
 abbrev pub natural_contents : ℕ → Contents ℕ
-natural_contents limit = record { in_form = λ n. n < limit; Octets = IsNatural; decode = natural_of limit }
+natural_contents limit = record { in_form = λ n. n < limit; Octets = IsNatural; octets = natural_octets; decode = natural_of limit }

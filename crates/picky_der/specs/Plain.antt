@@ -11,7 +11,7 @@ null_of [] = Ok tt
 null_of (b ∷ bs) = Err BadValue
 
 abbrev pub null_contents : Contents (Unit {0})
-null_contents = record { in_form = λ _. Unit {0}; Octets = λ octets _. octets ≡ []; decode = null_of }
+null_contents = record { in_form = λ _. Unit {0}; Octets = λ octets _. octets ≡ []; octets = λ _. []; decode = null_of }
 
 -- BOOLEAN has one octet: 00 for false and FF for true
 abbrev pub bool_octet : Bool → ℕ
@@ -24,11 +24,11 @@ bool_of (b ∷ []) = if b == 0 then Ok false else if b == 255 then Ok true else 
 bool_of (b ∷ c ∷ cs) = Err BadValue
 
 abbrev pub bool_contents : Contents Bool
-bool_contents = record { in_form = λ _. Unit {0}; Octets = λ octets x. octets ≡ bool_octet x ∷ []; decode = bool_of }
+bool_contents = record { in_form = λ _. Unit {0}; Octets = λ octets x. octets ≡ bool_octet x ∷ []; octets = λ x. bool_octet x ∷ []; decode = bool_of }
 
 -- a UTF8String's octets are its text in UTF-8
 abbrev pub utf8_of : List ℕ → Result (List ℕ) DerError
 utf8_of octets = if is_utf8 octets then Ok octets else Err BadValue
 
 abbrev pub utf8_contents : Contents (List ℕ)
-utf8_contents = record { in_form = IsUtf8; Octets = λ octets x. octets ≡ x; decode = utf8_of }
+utf8_contents = record { in_form = IsUtf8; Octets = λ octets x. octets ≡ x; octets = λ x. x; decode = utf8_of }

@@ -2,7 +2,7 @@
 use Rattle.std.specs.Prelude.{◌≡◌, ℕ, ◌==◌, List, Result, Ok}
 use Rattle.picky_asn1_tag.specs.declared.tag.Tag.{Tag}
 use Rattle.picky_der.specs.declared.fault.DerError.{DerError}
-use Rattle.picky_der.specs.Length.{IsBytes}
+use Rattle.picky_der.specs.Length.{IsBytes, value_of}
 use Rattle.picky_der.specs.Reading.{◌>>=◌, value_at}
 use Rattle.picky_der.specs.Form.{Form, IsValue}
 
@@ -12,6 +12,8 @@ pub record Contents (X : Type 0) : Type 1 where
   pub in_form : X → Type 0
   -- the octets stand for the value
   pub Octets : List ℕ → X → Type 0
+  -- the octets of a value in form
+  pub octets : X → List ℕ
   -- the value for which octets stand, or the fault
   pub decode : List ℕ → Result X DerError
 
@@ -21,6 +23,8 @@ pub record Decodes {X : Type 0} (k : Contents X) : Type 0 where
   pub takes : (octets : List ℕ) (x : X) → IsBytes octets → k.decode octets ≡ Ok x → k.in_form x × k.Octets octets x
   -- octets that stand for a value are decoded to it
   pub again : (octets : List ℕ) (x : X) → k.in_form x → k.Octets octets x → k.decode octets ≡ Ok x
+  -- the octets of a value in form stand for it
+  pub has_octets : (x : X) → k.in_form x → k.Octets (k.octets x) x
   -- a value has one list of octets
   pub one : (s t : List ℕ) (x : X) → k.in_form x → k.Octets s x → k.Octets t x → s ≡ t
 
@@ -40,6 +44,7 @@ primitive_form tag k = record {
   in_form = k.in_form;
   Spells = SpellsPrimitive tag k.Octets;
   Encodes = λ s x. k.in_form x × SpellsPrimitive tag k.Octets s x;
+  encoding = λ x. value_of tag.0 (k.octets x);
   Refused = λ x. ¬ k.in_form x;
   begins = λ b. b == tag.0;
   reading = primitive_at tag k.decode;

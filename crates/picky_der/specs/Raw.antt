@@ -14,6 +14,7 @@ raw_form = record {
   in_form = IsOneValue;
   Spells = λ s x. s ≡ x;
   Encodes = λ s x. IsOneValue x × (s ≡ x);
+  encoding = λ x. x;
   Refused = λ x. ¬ IsOneValue x;
   begins = λ b. not (b % 32 == 31);
   reading = λ _ bytes. raw_at bytes;

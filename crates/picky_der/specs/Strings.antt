@@ -17,11 +17,11 @@ integer_of octets = if is_shortest octets then Ok octets else Err BadValue
 
 -- INTEGERs of any size, seen as their octets; a shortest spelling is the only one of its number (a law of picky_asn1_bits)
 abbrev pub integer_contents : Contents (List ℕ)
-integer_contents = record { in_form = IsShortest; Octets = λ octets x. octets ≡ x; decode = integer_of }
+integer_contents = record { in_form = IsShortest; Octets = λ octets x. octets ≡ x; octets = λ x. x; decode = integer_of }
 
 -- an OCTET STRING's octets
 abbrev pub octets_of : List ℕ → Result (List ℕ) DerError
 octets_of octets = Ok octets
 
 abbrev pub octets_contents : Contents (List ℕ)
-octets_contents = record { in_form = λ _. Unit {0}; Octets = λ octets x. octets ≡ x; decode = octets_of }
+octets_contents = record { in_form = λ _. Unit {0}; Octets = λ octets x. octets ≡ x; octets = λ x. x; decode = octets_of }

@@ -88,6 +88,8 @@ impl DerForm for AlgorithmIdentifier {
     ghost stands_for = { λ a. a };
 
     ghost form = { algorithm_form };
+
+    ghost same_value = { λ _ _ e. e };
 }
 
 impl DerRead for AlgorithmIdentifier {

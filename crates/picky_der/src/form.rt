@@ -7,12 +7,12 @@ ghost use Rattle.picky_der.specs.Form.{Form, Readable, Writable, Tagged, Writes,
 
 use crate::fault::DerError;
 use crate::reader::DerReader;
-use picky_asn1_tag::{Asn1Type, Tag};
+use picky_asn1_tag::{Asn1Type, Asn1Value, Tag};
 use std::alloc::Global;
 
-/// What a type is as DER: its abstract values, which of them are in form, what spells them, what is written and
-/// what is read. The laws between these are members of [`DerRead`] and [`DerWrite`].
-pub trait DerForm {
+/// What a type is as DER: its abstract values, which of them are in form, what spells them, their encodings, what is
+/// written and what is read. The laws between these are members of [`DerRead`] and [`DerWrite`].
+pub trait DerForm: Asn1Value {
     /// The type of the abstract values.
     ghost Abstract: { Type 0 };
 
@@ -21,6 +21,9 @@ pub trait DerForm {
 
     /// What the abstract values are as DER.
     ghost form: { Form Abstract };
+
+    /// Values that mean the same stand for the same abstract value.
+    ghost same_value: { (x y : Self) → Self.meaning x ≡ Self.meaning y → stands_for x ≡ stands_for y };
 }
 
 /// A type whose values are written as DER.
@@ -31,7 +34,8 @@ pub trait DerWrite: DerForm {
     fn write_der(&self, alloc: Global, out: &mut Vec<u8>) -> Result<(), DerError>
         ensures { Writes (λ s. Self.form.Encodes s (Self.stands_for self.now)) (Self.form.Refused (Self.stands_for self.now)) result out.old.items out.new.items };
 
-    /// The laws of writing: one encoding a value, which is one value and a spelling of it.
+    /// The laws of writing: each value in form whose encoding fits 2^64 bytes is written, as its encoding alone, which is
+    /// one value and a spelling of it.
     ghost writable: { Writable Self.form };
 }
 
@@ -62,6 +66,7 @@ pub trait DerTagged: Asn1Type + DerWrite + DerRead {
 /// `BadValue` where it has none.
 pub fn to_vec<T: DerWrite>(alloc: Global, value: &T) -> Result<Vec<u8>, DerError>
     ensures encoded { IfOk result (λ bytes. T.form.Encodes bytes.items (T.stands_for value.now)) }
+    ensures encoding { IfOk result (λ bytes. bytes.items ≡ T.form.encoding (T.stands_for value.now)) }
     ensures raw { IfOk result (λ bytes. raw_at bytes.items ≡ Ok (bytes.items, [])) }
     ensures refused { IfErr result (λ fault. (fault ≡ OutOfMemory) ⊎ ((fault ≡ BadValue) × T.form.Refused (T.stands_for value.now))) }
 {

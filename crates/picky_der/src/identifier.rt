@@ -31,6 +31,8 @@ impl DerForm for ObjectIdentifier {
     ghost stands_for = { λ o. o };
 
     ghost form = { primitive_form (record { 0 = 6 }) identifier_contents };
+
+    ghost same_value = { λ _ _ e. e };
 }
 
 impl DerRead for ObjectIdentifier {

@@ -53,6 +53,8 @@ impl DerForm for IntegerAsn1 {
     ghost stands_for = { λ x. x.0 };
 
     ghost form = { primitive_form (record { 0 = 2 }) integer_contents };
+
+    ghost same_value = { λ _ _ e. e };
 }
 
 impl DerRead for IntegerAsn1 {

@@ -93,6 +93,8 @@ impl DerForm for u8 {
     ghost stands_for = { λ x. x };
 
     ghost form = { primitive_form (record { 0 = 2 }) (natural_contents (2 ^ 8)) };
+
+    ghost same_value = { λ _ _ e. e };
 }
 
 impl DerRead for u8 {
@@ -125,6 +127,8 @@ impl DerForm for u16 {
     ghost stands_for = { λ x. x };
 
     ghost form = { primitive_form (record { 0 = 2 }) (natural_contents (2 ^ 16)) };
+
+    ghost same_value = { λ _ _ e. e };
 }
 
 impl DerRead for u16 {
@@ -157,6 +161,8 @@ impl DerForm for u32 {
     ghost stands_for = { λ x. x };
 
     ghost form = { primitive_form (record { 0 = 2 }) (natural_contents (2 ^ 32)) };
+
+    ghost same_value = { λ _ _ e. e };
 }
 
 impl DerRead for u32 {
@@ -189,6 +195,8 @@ impl DerForm for u64 {
     ghost stands_for = { λ x. x };
 
     ghost form = { primitive_form (record { 0 = 2 }) (natural_contents (2 ^ 64)) };
+
+    ghost same_value = { λ _ _ e. e };
 }
 
 impl DerRead for u64 {
@@ -221,6 +229,8 @@ impl DerForm for u128 {
     ghost stands_for = { λ x. x };
 
     ghost form = { primitive_form (record { 0 = 2 }) (natural_contents (2 ^ 128)) };
+
+    ghost same_value = { λ _ _ e. e };
 }
 
 impl DerRead for u128 {

@@ -19,6 +19,8 @@ impl DerForm for OctetStringAsn1 {
     ghost stands_for = { λ x. x.0 };
 
     ghost form = { primitive_form (record { 0 = 4 }) octets_contents };
+
+    ghost same_value = { λ _ _ e. e };
 }
 
 impl DerRead for OctetStringAsn1 {

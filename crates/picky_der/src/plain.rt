@@ -27,6 +27,8 @@ impl DerForm for () {
     ghost stands_for = { λ x. x };
 
     ghost form = { primitive_form (record { 0 = 5 }) null_contents };
+
+    ghost same_value = { λ _ _ e. e };
 }
 
 impl DerRead for () {
@@ -76,6 +78,8 @@ impl DerForm for bool {
     ghost stands_for = { λ x. x };
 
     ghost form = { primitive_form (record { 0 = 1 }) bool_contents };
+
+    ghost same_value = { λ _ _ e. e };
 }
 
 impl DerRead for bool {
@@ -121,6 +125,8 @@ impl DerForm for String {
     ghost stands_for = { string_bytes };
 
     ghost form = { primitive_form (record { 0 = 12 }) utf8_contents };
+
+    ghost same_value = { λ _ _ e. e };
 }
 
 impl DerRead for String {

@@ -93,6 +93,8 @@ impl DerForm for Asn1RawDer {
     ghost stands_for = { λ x. x };
 
     ghost form = { raw_form };
+
+    ghost same_value = { λ _ _ e. e };
 }
 
 impl DerRead for Asn1RawDer {

@@ -130,6 +130,8 @@ impl DerForm for Ten {
     ghost stands_for = { λ t. t.0 };
 
     ghost form = { primitive_form (record { 0 = 2 }) (natural_contents (2 ^ 8)) };
+
+    ghost same_value = { λ _ _ e. e };
 }
 
 impl DerRead for Ten {

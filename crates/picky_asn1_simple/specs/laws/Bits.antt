@@ -43,6 +43,7 @@ bits_decodes : Decodes bits_contents
 bits_decodes = record {
   takes = λ octets x _ e. bits_done octets x e;
   again = bits_back;
+  has_octets = λ _ _. refl;
   one = λ s t x _ p q. p ∙ sym q;
 }
 
@@ -50,7 +51,7 @@ pub bits_readable : Readable (primitive_form (record { 0 = 3 }) bits_contents)
 bits_readable = primitive_readable (record { 0 = 3 }) bits_contents bits_decodes
 
 pub bits_writable : Writable (primitive_form (record { 0 = 3 }) bits_contents)
-bits_writable = primitive_writable (record { 0 = 3 }) bits_contents bits_decodes
+bits_writable = primitive_writable (record { 0 = 3 }) bits_contents bits_decodes (λ h. absurd (omega arith))
 
 pub bits_tagged : Tagged (record { 0 = 3 }) (primitive_form (record { 0 = 3 }) bits_contents)
 bits_tagged = primitive_tagged (record { 0 = 3 }) bits_contents

@@ -1,5 +1,5 @@
 -- The contents octets of a set that a test decides, and the tests of the sets.
-use Rattle.std.proofs.Common.{◌≡◌, ℕ, ◌+◌, ◌*◌, ◌/◌, ◌%◌, ◌<◌, ◌⊎◌, Bool, true, false, cond, ltb, leb, eqb, List, [], ◌∷◌, All, Ok, Err, refl, sym, ap, subst, ◌∙◌, arith}
+use Rattle.std.proofs.Common.{◌≡◌, ◌≢◌, ℕ, ◌+◌, ◌*◌, ◌/◌, ◌%◌, ◌<◌, ◌⊎◌, Bool, true, false, cond, ltb, leb, eqb, List, [], ◌∷◌, All, Ok, Err, refl, sym, ap, subst, ◌∙◌, arith}
 use Rattle.std.specs.Prelude.{◌||◌, ◌&&◌, codes}
 use Rattle.std.specs.Bool.{Decides}
 use Rattle.std.specs.List.{list_all, list_any}
@@ -35,14 +35,15 @@ module _ (InSet : List ℕ → Type 0) (test : List ℕ → Bool) (decides : (oc
   tested_decodes = record {
     takes = λ octets x _ e. tested_done octets x e;
     again = tested_back;
+    has_octets = λ _ _. refl;
     one = λ s t x _ p q. p ∙ sym q;
   }
 
   pub tested_readable : (tag : Tag) → Readable (primitive_form tag (tested_contents InSet test))
   tested_readable tag = primitive_readable tag (tested_contents InSet test) tested_decodes
 
-  pub tested_writable : (tag : Tag) → Writable (primitive_form tag (tested_contents InSet test))
-  tested_writable tag = primitive_writable tag (tested_contents InSet test) tested_decodes
+  pub tested_writable : (tag : Tag) → tag.0 % 32 ≢ 31 → Writable (primitive_form tag (tested_contents InSet test))
+  tested_writable tag one_byte = primitive_writable tag (tested_contents InSet test) tested_decodes one_byte
 
   -- what a check that passed, or didn't, makes of the octets
   pub tested_ok : (octets x : List ℕ) → InSet octets → x ≡ octets → tested_of test octets ≡ Ok x

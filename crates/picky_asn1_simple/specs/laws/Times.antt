@@ -1,5 +1,5 @@
 -- The contents octets of a form of dates are decoded.
-use Rattle.std.proofs.Common.{◌≡◌, ℕ, ◌+◌, ◌-◌, ◌*◌, ◌/◌, ◌%◌, Bool, true, false, cond, List, Ok, Err, refl, sym, ap, subst, ◌∙◌, inl, inr, arith}
+use Rattle.std.proofs.Common.{◌≡◌, ◌≢◌, ℕ, ◌+◌, ◌-◌, ◌*◌, ◌/◌, ◌%◌, Bool, true, false, cond, List, Ok, Err, refl, sym, ap, subst, ◌∙◌, inl, inr, arith}
 use Rattle.std.specs.Prelude.{◌&&◌, nat_eq, nat_lt, nat_le}
 use Rattle.std.specs.Bool.{Decides}
 use Rattle.std.specs.Cmp.Lexicographic.{pointwise, bytes_decides}
@@ -64,14 +64,15 @@ module _ (IsYear : ℕ → Type 0) (is_year : ℕ → Bool) (text : Moment → L
     time_decodes = record {
       takes = λ octets m _ e. time_takes octets m e;
       again = time_again;
+      has_octets = λ _ _. refl;
       one = λ s t m _ p q. p ∙ sym q;
     }
 
     pub time_readable : (tag : Tag) → Readable (primitive_form tag (time_contents IsYear is_year text numbers))
     time_readable tag = primitive_readable tag (time_contents IsYear is_year text numbers) time_decodes
 
-    pub time_writable : (tag : Tag) → Writable (primitive_form tag (time_contents IsYear is_year text numbers))
-    time_writable tag = primitive_writable tag (time_contents IsYear is_year text numbers) time_decodes
+    pub time_writable : (tag : Tag) → tag.0 % 32 ≢ 31 → Writable (primitive_form tag (time_contents IsYear is_year text numbers))
+    time_writable tag one_byte = primitive_writable tag (time_contents IsYear is_year text numbers) time_decodes one_byte
 
 pub time_tagged : (tag : Tag) (IsYear : ℕ → Type 0) (is_year : ℕ → Bool) (text : Moment → List ℕ) (numbers : List ℕ → Moment) → Tagged tag (primitive_form tag (time_contents IsYear is_year text numbers))
 time_tagged tag IsYear is_year text numbers = primitive_tagged tag (time_contents IsYear is_year text numbers)

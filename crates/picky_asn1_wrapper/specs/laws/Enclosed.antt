@@ -1,12 +1,12 @@
 -- The laws of one value in another.
-use Rattle.std.proofs.Common.{◌≡◌, ◌≢◌, ℕ, ◌+◌, ◌%◌, ◌<◌, eqb, List, [], ◌∷◌, ◌++◌, length, Ok, refl, sym, ap, subst, ◌∙◌, arith, inl, inr}
+use Rattle.std.proofs.Common.{◌≡◌, ◌≢◌, ℕ, ◌+◌, ◌%◌, ◌^◌, ◌<◌, eqb, List, [], ◌∷◌, ◌++◌, length, Ok, refl, ap, subst, ◌∙◌, arith, inl, inr}
 use Rattle.picky_asn1_tag.specs.declared.tag.Tag.{Tag}
 use Rattle.picky_der.specs.Length.{IsBytes, TailIsBytes, value_of}
 use Rattle.picky_der.specs.Reading.{◌>>=◌, nested_at, nested_bits_at, end_at}
 use Rattle.picky_der.specs.Form.{Form, Readable, Writable, Tagged, IsValue, Takes, GivesOrTooDeep}
 use Rattle.picky_der.specs.laws.Steps.{ok_is, bind_ok, pair_fst, pair_snd}
 use Rattle.picky_der.specs.laws.Lengths.{IsBytes-rest, TailIsBytes-of}
-use Rattle.picky_der.specs.laws.Headers.{IsValue-same, IsBytes-contents, BeginsBy-value, nested_again, nested_takes, nested_shorter, nested_bits_again, nested_bits_takes, nested_bits_shorter, end_takes, end_again, eqb_same}
+use Rattle.picky_der.specs.laws.Headers.{IsValue-same, IsValue-of, length-value_of, IsBytes-contents, BeginsBy-value, nested_again, nested_takes, nested_shorter, nested_bits_again, nested_bits_takes, nested_bits_shorter, end_takes, end_again, eqb_same}
 use Rattle.picky_der.specs.laws.Whole.{taken_whole, again_alone}
 use Rattle.picky_asn1_wrapper.specs.Enclosed.{alone_in, enclosed_at, SpellsEnclosed, enclosed_form, bits_at, SpellsBits, bits_form}
 
@@ -121,14 +121,15 @@ module _ {X : Type 0} (f : Form X) (law : Readable f) where
       first = λ s x _ p. BeginsBy-value (λ b. eqb b tag.0) tag (0 ∷ p.contents) s (eqb_same tag.0) p.value;
     }
 
-module _ {X : Type 0} (f : Form X) (law : Writable f) (tag : Tag) where
+module _ {X : Type 0} (f : Form X) (law : Writable f) (tag : Tag) (one_byte : tag.0 % 32 ≢ 31) where
   pub enclosed_writable : Writable (enclosed_form tag f)
   enclosed_writable = record {
     encodes = λ s x h p. record { contents = p.contents; value = p.value; inner = law.encodes p.contents x h p.inner };
     written = λ s x p. record { tag = tag; contents = p.contents; value = p.value };
-    one_encoding = λ s t x p q.
-        let same = law.one_encoding p.contents q.contents x p.inner q.inner in
-        p.value.bytes_are ∙ ap (value_of tag.0) same ∙ sym q.value.bytes_are;
+    is_encoding = λ s x p. p.value.bytes_are ∙ ap (value_of tag.0) (law.is_encoding p.contents x p.inner);
+    has_encoding = λ x formed fits.
+        let inner : length (f.encoding x) < 2 ^ 64 = omega (arith, length-value_of tag.0 (f.encoding x)) in
+        record { contents = f.encoding x; value = IsValue-of tag (f.encoding x) one_byte fits; inner = law.has_encoding x formed inner };
     not_refused = λ s x p r. law.not_refused p.contents x p.inner r;
     accepted = law.accepted;
   }
@@ -137,9 +138,10 @@ module _ {X : Type 0} (f : Form X) (law : Writable f) (tag : Tag) where
   bits_writable = record {
     encodes = λ s x h p. record { contents = p.contents; value = p.value; inner = law.encodes p.contents x h p.inner };
     written = λ s x p. record { tag = tag; contents = 0 ∷ p.contents; value = p.value };
-    one_encoding = λ s t x p q.
-        let same = law.one_encoding p.contents q.contents x p.inner q.inner in
-        p.value.bytes_are ∙ ap (λ (c : List ℕ). value_of tag.0 (0 ∷ c)) same ∙ sym q.value.bytes_are;
+    is_encoding = λ s x p. p.value.bytes_are ∙ ap (λ (c : List ℕ). value_of tag.0 (0 ∷ c)) (law.is_encoding p.contents x p.inner);
+    has_encoding = λ x formed fits.
+        let inner : length (f.encoding x) < 2 ^ 64 = omega (arith, length-value_of tag.0 (0 ∷ f.encoding x)) in
+        record { contents = f.encoding x; value = IsValue-of tag (0 ∷ f.encoding x) one_byte fits; inner = law.has_encoding x formed inner };
     not_refused = λ s x p r. law.not_refused p.contents x p.inner r;
     accepted = law.accepted;
   }

@@ -1,4 +1,4 @@
--- `==` tells values of different meaning apart.
+-- `==` tells values of different meaning apart, and lists of one meaning stand for one list.
 use Rattle.std.proofs.Common.{◌≡◌, ℕ, Bool, true, false, ◌&&◌, eqb, List, [], ◌∷◌, refl, sym, ap, subst, ◌∙◌}
 use Rattle.std.specs.Prelude.{◌↔◌, IsTrue, map, nat_eq}
 use Rattle.std.specs.Cmp.{first_so, second_so}
@@ -70,6 +70,16 @@ heads a b xs ys e = cc
 
 tails : {M : Type 0} (a b : M) (xs ys : List M) → a ∷ xs ≡ b ∷ ys → xs ≡ ys
 tails a b xs ys e = cc
+
+-- where items that mean the same stand for the same value, lists do
+pub lists_same_value : {X M A : Type 0} (meaning : X → M) (stands_for : X → A) → ((x y : X) → meaning x ≡ meaning y → stands_for x ≡ stands_for y) → (xs ys : List X) → map meaning xs ≡ map meaning ys → map stands_for xs ≡ map stands_for ys
+lists_same_value meaning stands_for h [] [] e = refl
+lists_same_value meaning stands_for h [] (y ∷ ys) e = absurd cc
+lists_same_value meaning stands_for h (x ∷ xs) [] e = absurd cc
+lists_same_value meaning stands_for h (x ∷ xs) (y ∷ ys) e =
+    let one = h x y (heads (meaning x) (meaning y) (map meaning xs) (map meaning ys) e) in
+    let rest = lists_same_value meaning stands_for h xs ys (tails (meaning x) (meaning y) (map meaning xs) (map meaning ys) e) in
+    rw (one, rest) refl
 
 -- where `==` tells the items' meanings apart, it tells those of the lists apart
 pub lists_equal : {X M : Type 0} (eq : X → X → Bool) (meaning : X → M) → ((x y : X) → IsTrue (eq x y) ↔ (meaning x ≡ meaning y)) → (xs ys : List X) → IsTrue (pointwise eq xs ys) ↔ (map meaning xs ≡ map meaning ys)

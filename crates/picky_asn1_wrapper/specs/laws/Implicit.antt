@@ -1,7 +1,7 @@
 -- The laws of one value under another tag.
-use Rattle.std.proofs.Common.{◌≡◌, ◌≢◌, ℕ, ◌%◌, ◌<◌, eqb, List, [], ◌∷◌, ◌++◌, length, drop, Ok, refl, sym, ap, subst, ◌∙◌, arith, inl, inr}
+use Rattle.std.proofs.Common.{◌≡◌, ◌≢◌, ℕ, ◌%◌, ◌^◌, ◌<◌, eqb, List, [], ◌∷◌, ◌++◌, length, drop, Ok, refl, sym, ap, subst, ◌∙◌, arith, inl, inr}
 use Rattle.std.proofs.lemmas.Bool.{eqb-true}
-use Rattle.std.proofs.lemmas.List.{append-nil}
+use Rattle.std.proofs.lemmas.List.{append-nil, length-drop}
 use Rattle.picky_asn1_tag.specs.declared.tag.Tag.{Tag}
 use Rattle.picky_der.specs.Length.{TailIsBytes, length_of, value_of}
 use Rattle.picky_der.specs.Reading.{◌>>=◌, value_at, raw_at}
@@ -108,7 +108,10 @@ implicit_writable f law outer inner one_byte = record {
   written = λ s x p.
       let v = law.written p.spelling x p.spelled in
       record { tag = outer; contents = v.contents; value = record { one_byte = one_byte; fits = v.value.fits; bytes_are = p.bytes_are ∙ ap (λ (r : List ℕ). outer.0 ∷ drop 1 r) v.value.bytes_are ∙ retag outer v.tag.0 v.contents } };
-  one_encoding = λ s t x p q. p.bytes_are ∙ ap (λ (r : List ℕ). outer.0 ∷ drop 1 r) (law.one_encoding p.spelling q.spelling x p.spelled q.spelled) ∙ sym q.bytes_are;
+  is_encoding = λ s x p. p.bytes_are ∙ ap (λ (r : List ℕ). outer.0 ∷ drop 1 r) (law.is_encoding p.spelling x p.spelled);
+  has_encoding = λ x formed fits.
+      let same : length (f.encoding x) < 2 ^ 64 = omega (arith, length-drop 1 (f.encoding x)) in
+      record { spelling = f.encoding x; spelled = law.has_encoding x formed same; bytes_are = refl };
   not_refused = λ s x p r. law.not_refused p.spelling x p.spelled r;
   accepted = law.accepted;
 }

@@ -1,5 +1,6 @@
 -- The laws of SEQUENCE OF and SET OF.
-use Rattle.std.proofs.Common.{◌≡◌, ℕ, zero, suc, ◌+◌, ◌<◌, ◌≤◌, eqb, List, [], ◌∷◌, ◌++◌, length, Ok, refl, sym, ap, subst, ◌∙◌, arith, inl, inr}
+use Rattle.std.proofs.Common.{◌≡◌, ◌≢◌, ℕ, zero, suc, ◌+◌, ◌%◌, ◌^◌, ◌<◌, ◌≤◌, eqb, List, [], ◌∷◌, ◌++◌, length, Ok, refl, sym, ap, subst, ◌∙◌, arith, inl, inr}
+use Rattle.std.specs.List.{flat_map}
 use Rattle.std.proofs.lemmas.List.{length-append, append_cancel_left}
 use Rattle.picky_asn1_tag.specs.declared.tag.Tag.{Tag}
 use Rattle.picky_der.specs.Length.{IsBytes, TailIsBytes, value_of}
@@ -7,7 +8,7 @@ use Rattle.picky_der.specs.Reading.{◌>>=◌, nested_at}
 use Rattle.picky_der.specs.Form.{Form, Readable, Writable, Tagged, IsValue, BeginsBy, Takes, GivesOrTooDeep}
 use Rattle.picky_der.specs.laws.Steps.{ok_is, bind_ok, pair_snd}
 use Rattle.picky_der.specs.laws.Lengths.{IsBytes-after, TailIsBytes-of}
-use Rattle.picky_der.specs.laws.Headers.{IsValue-same, IsBytes-contents, BeginsBy-value, nested_again, nested_takes, nested_shorter, eqb_same}
+use Rattle.picky_der.specs.laws.Headers.{IsValue-same, IsValue-of, length-value_of, IsBytes-contents, BeginsBy-value, nested_again, nested_takes, nested_shorter, eqb_same}
 use Rattle.picky_asn1_wrapper.specs.Lists.{SpellsAll, AllFormed, SomeRefused, items_at, list_at, SpellsList, list_form}
 
 some_byte : (test : ℕ → _) (s : List ℕ) → BeginsBy test s → 0 < length s
@@ -106,12 +107,17 @@ module _ {X : Type 0} (f : Form X) (law : Writable f) where
   items_encode s [] h p = p
   items_encode s (x ∷ xs) h p = (p.0, p.1, p.2, law.encodes p.0 x h.0 p.3, items_encode p.1 xs h.1 p.4)
 
-  items_one : (s t : List ℕ) (xs : List X) → SpellsAll f.Encodes s xs → SpellsAll f.Encodes t xs → s ≡ t
-  items_one s t [] p q = p ∙ sym q
-  items_one s t (x ∷ xs) p q =
-      let one : p.0 ≡ q.0 = law.one_encoding p.0 q.0 x p.3 q.3 in
-      let more : p.1 ≡ q.1 = items_one p.1 q.1 xs p.4 q.4 in
-      p.2 ∙ ap (λ (r : List ℕ). r ++ p.1) one ∙ ap (λ (r : List ℕ). q.0 ++ r) more ∙ sym q.2
+  items_are : (s : List ℕ) (xs : List X) → SpellsAll f.Encodes s xs → s ≡ flat_map f.encoding xs
+  items_are s [] p = p
+  items_are s (x ∷ xs) p = p.2 ∙ ap (λ (r : List ℕ). r ++ p.1) (law.is_encoding p.0 x p.3) ∙ ap (λ (r : List ℕ). f.encoding x ++ r) (items_are p.1 xs p.4)
+
+  items_have : (xs : List X) → AllFormed f.in_form xs → length (flat_map f.encoding xs) < 2 ^ 64 → SpellsAll f.Encodes (flat_map f.encoding xs) xs
+  items_have [] h fits = refl
+  items_have (x ∷ xs) h fits =
+      let one = f.encoding x in
+      let more = flat_map f.encoding xs in
+      let both : length (one ++ more) ≡ length one + length more = length-append one more in
+      (one, more, refl, law.has_encoding x h.0 (omega arith), items_have xs h.1 (omega arith))
 
   items_not_refused : (s : List ℕ) (xs : List X) → SpellsAll f.Encodes s xs → SomeRefused f.Refused xs → ⊥
   items_not_refused s [] p r = r
@@ -123,14 +129,16 @@ module _ {X : Type 0} (f : Form X) (law : Writable f) where
   items_accepted (x ∷ xs) h (inl r) = law.accepted x h.0 r
   items_accepted (x ∷ xs) h (inr r) = items_accepted xs h.1 r
 
-  module _ (tag : Tag) where
+  module _ (tag : Tag) (one_byte : tag.0 % 32 ≢ 31) where
     pub list_writable : Writable (list_form tag f)
     list_writable = record {
       encodes = λ s xs h p. record { contents = p.contents; value = p.value; items = items_encode p.contents xs h p.items };
       written = λ s xs p. record { tag = tag; contents = p.contents; value = p.value };
-      one_encoding = λ s t xs p q.
-          let same = items_one p.contents q.contents xs p.items q.items in
-          p.value.bytes_are ∙ ap (value_of tag.0) same ∙ sym q.value.bytes_are;
+      is_encoding = λ s xs p. p.value.bytes_are ∙ ap (value_of tag.0) (items_are p.contents xs p.items);
+      has_encoding = λ xs formed fits.
+          let all = flat_map f.encoding xs in
+          let inner : length all < 2 ^ 64 = omega (arith, length-value_of tag.0 all) in
+          record { contents = all; value = IsValue-of tag all one_byte fits; items = items_have xs formed inner };
       not_refused = λ s xs p r. items_not_refused p.contents xs p.items r;
       accepted = items_accepted;
     }

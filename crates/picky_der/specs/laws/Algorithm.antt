@@ -1,7 +1,8 @@
 -- The laws of an AlgorithmIdentifier.
-use Rattle.std.proofs.Common.{◌≡◌, ℕ, ◌+◌, ◌<◌, eqb, Option, Some, None, List, [], ◌∷◌, ◌++◌, length, Ok, refl, sym, ap, subst, ◌∙◌, arith, inl, inr}
+use Rattle.std.proofs.Common.{◌≡◌, ℕ, ◌+◌, ◌^◌, ◌<◌, eqb, Option, Some, None, List, [], ◌∷◌, ◌++◌, length, Ok, refl, sym, ap, subst, ◌∙◌, arith, inl, inr}
 use Rattle.std.specs.Prelude.{IfSome}
-use Rattle.std.proofs.lemmas.List.{append-nil, append_cancel_left}
+use Rattle.std.proofs.lemmas.List.{append-nil, append_cancel_left, length-append}
+use Rattle.picky_asn1_oid.specs.Arcs.{contents_of}
 use Rattle.picky_asn1_tag.specs.declared.tag.Tag.{Tag}
 use Rattle.picky_der.specs.declared.algorithm.AlgorithmIdentifier.{AlgorithmIdentifier}
 use Rattle.picky_der.specs.Length.{IsBytes, TailIsBytes, value_of}
@@ -12,7 +13,7 @@ use Rattle.picky_der.specs.Identifier.{identifier_of, identifier_contents}
 use Rattle.picky_der.specs.Algorithm.{IsAlgorithm, parameters_bytes, SpellsAlgorithm, parameters_at, fields_at, algorithm_at, algorithm_form}
 use Rattle.picky_der.specs.laws.Steps.{ok_is, bind_ok, pair_snd}
 use Rattle.picky_der.specs.laws.Lengths.{IsBytes-after, TailIsBytes-of}
-use Rattle.picky_der.specs.laws.Headers.{IsValue-same, IsBytes-contents, BeginsBy-value, nested_again, nested_takes, nested_shorter, raw_again, raw_takes, end_takes, end_again, eqb_same}
+use Rattle.picky_der.specs.laws.Headers.{IsValue-same, IsValue-of, length-value_of, IsBytes-contents, BeginsBy-value, nested_again, nested_takes, nested_shorter, raw_again, raw_takes, end_takes, end_again, eqb_same}
 use Rattle.picky_der.specs.laws.Identifier.{identifier_readable, identifier_writable}
 
 abbrev made : List ℕ → Option (List ℕ) → AlgorithmIdentifier
@@ -144,9 +145,12 @@ pub algorithm_writable : Writable algorithm_form
 algorithm_writable = record {
   encodes = λ s a _ p. p.1;
   written = λ s a p. record { tag = sequence; contents = p.1.identifier ++ parameters_bytes a.parameters; value = p.1.value };
-  one_encoding = λ s t a p q.
-      let same = identifier_writable.one_encoding p.1.identifier q.1.identifier a.oid (p.0.arcs, p.1.spelled) (q.0.arcs, q.1.spelled) in
-      p.1.value.bytes_are ∙ ap (λ (i : List ℕ). value_of 48 (i ++ parameters_bytes a.parameters)) same ∙ sym q.1.value.bytes_are;
+  is_encoding = λ s a p.
+      p.1.value.bytes_are ∙ ap (λ (i : List ℕ). value_of 48 (i ++ parameters_bytes a.parameters)) (identifier_writable.is_encoding p.1.identifier a.oid (p.0.arcs, p.1.spelled));
+  has_encoding = λ a f fits.
+      let i = value_of 6 (contents_of a.oid) in
+      let inner : length i < 2 ^ 64 = omega (arith, length-append i (parameters_bytes a.parameters), length-value_of 48 (i ++ parameters_bytes a.parameters)) in
+      (f, record { identifier = i; spelled = (identifier_writable.has_encoding a.oid f.arcs inner).1; value = IsValue-of sequence (i ++ parameters_bytes a.parameters) (λ h. absurd (omega arith)) fits });
   not_refused = λ s a p r. r p.0;
   accepted = λ a f r. r f;
 }

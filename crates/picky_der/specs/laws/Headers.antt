@@ -92,6 +92,10 @@ pub length-value_of : (tag : ℕ) (c : List ℕ) → length c < length (value_of
 unfolding value_of
 length-value_of tag c = omega (arith, length-append (length_of (length c)) c)
 
+-- a value that fits 2^64 bytes
+pub IsValue-of : (tag : Tag) (c : List ℕ) → tag.0 % 32 ≢ 31 → length (value_of tag.0 c) < 2 ^ 64 → IsValue tag c (value_of tag.0 c)
+IsValue-of tag c one_byte fits = record { one_byte = one_byte; fits = omega (arith, length-value_of tag.0 c); bytes_are = refl }
+
 -- ---- what is read takes a byte
 
 long_shorter : (k : ℕ) (bytes : List ℕ) (n : ℕ) (rest : List ℕ) → long_at k bytes ≡ Ok (n, rest) → length rest ≤ length bytes

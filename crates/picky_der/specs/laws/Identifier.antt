@@ -102,6 +102,7 @@ identifier_decodes : Decodes identifier_contents
 identifier_decodes = record {
   takes = λ octets arcs _ e. identifier_done octets arcs e;
   again = identifier_back;
+  has_octets = λ _ _. refl;
   one = λ s t arcs _ p q. p ∙ sym q;
 }
 
@@ -109,7 +110,7 @@ pub identifier_readable : Readable (primitive_form (record { 0 = 6 }) identifier
 identifier_readable = primitive_readable (record { 0 = 6 }) identifier_contents identifier_decodes
 
 pub identifier_writable : Writable (primitive_form (record { 0 = 6 }) identifier_contents)
-identifier_writable = primitive_writable (record { 0 = 6 }) identifier_contents identifier_decodes
+identifier_writable = primitive_writable (record { 0 = 6 }) identifier_contents identifier_decodes (λ h. absurd (omega arith))
 
 pub identifier_tagged : Tagged (record { 0 = 6 }) (primitive_form (record { 0 = 6 }) identifier_contents)
 identifier_tagged = primitive_tagged (record { 0 = 6 }) identifier_contents

@@ -7,7 +7,7 @@ use Rattle.picky_der.specs.declared.fault.DerError.TheVariants.{BadValue}
 use Rattle.picky_der.specs.Form.{Readable, Writable, Tagged}
 use Rattle.picky_der.specs.Primitive.{Decodes, primitive_form}
 use Rattle.picky_der.specs.Length.{IsBytes, number_of, number_after}
-use Rattle.picky_der.specs.Natural.{IsNatural, redundant, natural_of, natural_contents}
+use Rattle.picky_der.specs.Natural.{IsNatural, redundant, octets_within, natural_octets, natural_of, natural_contents}
 use Rattle.picky_der.specs.laws.Steps.{guard_ok, need_ok, or_false, ok_is}
 use Rattle.picky_der.specs.laws.Lengths.{IsBytes-rest, IsBytes-cons, IsBytes-front, IsBytes-both}
 use Rattle.picky_der.specs.laws.Primitives.{primitive_readable, primitive_writable, primitive_tagged}
@@ -54,6 +54,20 @@ IsNatural-push c b n p lt big = record {
   fewest = λ _ z. fewest-push c b n p big z;
   number = number_of-push c b ∙ ap (λ (m : ℕ). m * 256 + b) p.number;
 }
+
+-- the octets of a number stand for it
+within-natural : (most n : ℕ) → n ≤ most → IsNatural (octets_within most n) n
+within-natural zero n le = natural_one n (omega arith)
+within-natural (suc most) n le = elim (cases_lt n 128) [
+  | inl small ↦ rw (lt-ltb n 128 small) (natural_one n small)
+  | inr big ↦
+      let parts : n / 256 * 256 + n % 256 ≡ n = omega arith in
+      let front = within-natural most (n / 256) (omega arith) in
+      rw (le-ltb n 128 big) (subst (IsNatural (octets_within most (n / 256) ++ n % 256 ∷ [])) parts (IsNatural-push (octets_within most (n / 256)) (n % 256) (n / 256) front (omega arith) (omega arith)))
+]
+
+natural-octets : (n : ℕ) → IsNatural (natural_octets n) n
+natural-octets n = within-natural n n (omega arith)
 
 -- ---- a number has one list of octets
 
@@ -176,6 +190,7 @@ natural_decodes : (limit : ℕ) → Decodes (natural_contents limit)
 natural_decodes limit = record {
   takes = natural_done limit;
   again = natural_back limit;
+  has_octets = λ n _. natural-octets n;
   one = λ s t n _ p q. natural-one s t n p q;
 }
 
@@ -183,7 +198,7 @@ pub natural_readable : (limit : ℕ) → Readable (primitive_form (record { 0 = 
 natural_readable limit = primitive_readable (record { 0 = 2 }) (natural_contents limit) (natural_decodes limit)
 
 pub natural_writable : (limit : ℕ) → Writable (primitive_form (record { 0 = 2 }) (natural_contents limit))
-natural_writable limit = primitive_writable (record { 0 = 2 }) (natural_contents limit) (natural_decodes limit)
+natural_writable limit = primitive_writable (record { 0 = 2 }) (natural_contents limit) (natural_decodes limit) (λ h. absurd (omega arith))
 
 pub natural_tagged : (limit : ℕ) → Tagged (record { 0 = 2 }) (primitive_form (record { 0 = 2 }) (natural_contents limit))
 natural_tagged limit = primitive_tagged (record { 0 = 2 }) (natural_contents limit)

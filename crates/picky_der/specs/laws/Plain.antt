@@ -1,5 +1,5 @@
 -- The contents octets of NULL, BOOLEAN and UTF8String are decoded.
-use Rattle.std.proofs.Common.{◌≡◌, ℕ, Bool, true, false, cond, eqb, List, [], ◌∷◌, Ok, Err, refl, sym, subst, ◌∙◌, inl, inr}
+use Rattle.std.proofs.Common.{◌≡◌, ℕ, Bool, true, false, cond, eqb, List, [], ◌∷◌, Ok, Err, refl, sym, subst, ◌∙◌, arith, inl, inr}
 use Rattle.std.proofs.lemmas.Bool.{eqb-true}
 use Rattle.std.proofs.lemmas.Str.{IsUtf8-from_is_utf8, is_utf8-from_IsUtf8}
 use Rattle.std.specs.Str.{IsUtf8, is_utf8}
@@ -18,6 +18,7 @@ pub null_decodes : Decodes null_contents
 null_decodes = record {
   takes = λ octets x _ e. (tt, null_done octets x e);
   again = λ octets x _ p. rw p refl;
+  has_octets = λ _ _. refl;
   one = λ s t x _ p q. p ∙ sym q;
 }
 
@@ -41,6 +42,7 @@ pub bool_decodes : Decodes bool_contents
 bool_decodes = record {
   takes = λ octets x _ e. (tt, bool_done octets x e);
   again = λ octets x _ p. rw p (bool_back x);
+  has_octets = λ _ _. refl;
   one = λ s t x _ p q. p ∙ sym q;
 }
 
@@ -57,6 +59,7 @@ pub utf8_decodes : Decodes utf8_contents
 utf8_decodes = record {
   takes = λ octets x _ e. utf8_done octets x e;
   again = utf8_back;
+  has_octets = λ _ _. refl;
   one = λ s t x _ p q. p ∙ sym q;
 }
 
@@ -64,19 +67,19 @@ pub null_readable : Readable (primitive_form (record { 0 = 5 }) null_contents)
 null_readable = primitive_readable (record { 0 = 5 }) null_contents null_decodes
 
 pub null_writable : Writable (primitive_form (record { 0 = 5 }) null_contents)
-null_writable = primitive_writable (record { 0 = 5 }) null_contents null_decodes
+null_writable = primitive_writable (record { 0 = 5 }) null_contents null_decodes (λ h. absurd (omega arith))
 
 pub bool_readable : Readable (primitive_form (record { 0 = 1 }) bool_contents)
 bool_readable = primitive_readable (record { 0 = 1 }) bool_contents bool_decodes
 
 pub bool_writable : Writable (primitive_form (record { 0 = 1 }) bool_contents)
-bool_writable = primitive_writable (record { 0 = 1 }) bool_contents bool_decodes
+bool_writable = primitive_writable (record { 0 = 1 }) bool_contents bool_decodes (λ h. absurd (omega arith))
 
 pub utf8_readable : Readable (primitive_form (record { 0 = 12 }) utf8_contents)
 utf8_readable = primitive_readable (record { 0 = 12 }) utf8_contents utf8_decodes
 
 pub utf8_writable : Writable (primitive_form (record { 0 = 12 }) utf8_contents)
-utf8_writable = primitive_writable (record { 0 = 12 }) utf8_contents utf8_decodes
+utf8_writable = primitive_writable (record { 0 = 12 }) utf8_contents utf8_decodes (λ h. absurd (omega arith))
 
 pub null_tagged : Tagged (record { 0 = 5 }) (primitive_form (record { 0 = 5 }) null_contents)
 null_tagged = primitive_tagged (record { 0 = 5 }) null_contents

@@ -1,12 +1,12 @@
 -- The laws of a type whose contents octets are decoded.
-use Rattle.std.proofs.Common.{◌≡◌, ℕ, ◌<◌, eqb, List, ◌++◌, length, Ok, refl, sym, ap, subst, ◌∙◌, arith, inl}
+use Rattle.std.proofs.Common.{◌≡◌, ◌≢◌, ℕ, ◌%◌, ◌<◌, eqb, List, ◌++◌, length, Ok, refl, sym, ap, subst, ◌∙◌, arith, inl}
 use Rattle.picky_asn1_tag.specs.declared.tag.Tag.{Tag}
 use Rattle.picky_der.specs.Length.{TailIsBytes, value_of}
 use Rattle.picky_der.specs.Reading.{◌>>=◌, value_at}
 use Rattle.picky_der.specs.Form.{Readable, Writable, Tagged, IsValue, Takes, GivesOrTooDeep}
 use Rattle.picky_der.specs.Primitive.{Contents, Decodes, SpellsPrimitive, primitive_at, primitive_form}
 use Rattle.picky_der.specs.laws.Steps.{ok_is, bind_ok, pair_snd}
-use Rattle.picky_der.specs.laws.Headers.{IsValue-same, IsValue-again, IsBytes-contents, BeginsBy-value, value_takes, value_shorter, eqb_same}
+use Rattle.picky_der.specs.laws.Headers.{IsValue-same, IsValue-again, IsValue-of, IsBytes-contents, BeginsBy-value, value_takes, value_shorter, eqb_same}
 
 module _ {X : Type 0} (tag : Tag) (k : Contents X) (law : Decodes k) where
   same_octets : (c d : List ℕ) (x y : X) → k.in_form x → k.in_form y → k.Octets c x → k.Octets d y → c ≡ d → x ≡ y
@@ -51,13 +51,12 @@ module _ {X : Type 0} (tag : Tag) (k : Contents X) (law : Decodes k) where
     first = λ s x _ p. BeginsBy-value (λ b. eqb b tag.0) tag p.octets s (eqb_same tag.0) p.value;
   }
 
-  pub primitive_writable : Writable (primitive_form tag k)
-  primitive_writable = record {
+  pub primitive_writable : tag.0 % 32 ≢ 31 → Writable (primitive_form tag k)
+  primitive_writable one_byte = record {
     encodes = λ s x _ p. p.1;
     written = λ s x p. record { tag = tag; contents = p.1.octets; value = p.1.value };
-    one_encoding = λ s t x p q.
-        let same = law.one p.1.octets q.1.octets x p.0 p.1.stands_for q.1.stands_for in
-        p.1.value.bytes_are ∙ ap (value_of tag.0) same ∙ sym q.1.value.bytes_are;
+    is_encoding = λ s x p. p.1.value.bytes_are ∙ ap (value_of tag.0) (law.one p.1.octets (k.octets x) x p.0 p.1.stands_for (law.has_octets x p.0));
+    has_encoding = λ x f fits. (f, record { octets = k.octets x; value = IsValue-of tag (k.octets x) one_byte fits; stands_for = law.has_octets x f });
     not_refused = λ s x p r. r p.0;
     accepted = λ x f r. r f;
   }

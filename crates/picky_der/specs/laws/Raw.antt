@@ -41,7 +41,8 @@ pub raw_writable : Writable raw_form
 raw_writable = record {
   encodes = λ s x _ p. p.1;
   written = λ s x p. subst IsOneValue (sym p.1) p.0;
-  one_encoding = λ s t x p q. p.1 ∙ sym q.1;
+  is_encoding = λ s x p. p.1;
+  has_encoding = λ x f _. (f, refl);
   not_refused = λ s x p r. r p.0;
   accepted = λ x f r. r f;
 }

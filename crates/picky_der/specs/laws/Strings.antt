@@ -65,6 +65,7 @@ integer_decodes : Decodes integer_contents
 integer_decodes = record {
   takes = λ octets x _ e. integer_done octets x e;
   again = integer_back;
+  has_octets = λ _ _. refl;
   one = λ s t x _ p q. p ∙ sym q;
 }
 
@@ -72,6 +73,7 @@ octets_decodes : Decodes octets_contents
 octets_decodes = record {
   takes = λ octets x _ e. (tt, ok_is octets x e);
   again = λ octets x _ p. rw p refl;
+  has_octets = λ _ _. refl;
   one = λ s t x _ p q. p ∙ sym q;
 }
 
@@ -79,7 +81,7 @@ pub integer_readable : Readable (primitive_form (record { 0 = 2 }) integer_conte
 integer_readable = primitive_readable (record { 0 = 2 }) integer_contents integer_decodes
 
 pub integer_writable : Writable (primitive_form (record { 0 = 2 }) integer_contents)
-integer_writable = primitive_writable (record { 0 = 2 }) integer_contents integer_decodes
+integer_writable = primitive_writable (record { 0 = 2 }) integer_contents integer_decodes (λ h. absurd (omega arith))
 
 pub integer_tagged : Tagged (record { 0 = 2 }) (primitive_form (record { 0 = 2 }) integer_contents)
 integer_tagged = primitive_tagged (record { 0 = 2 }) integer_contents
@@ -88,7 +90,7 @@ pub octets_readable : Readable (primitive_form (record { 0 = 4 }) octets_content
 octets_readable = primitive_readable (record { 0 = 4 }) octets_contents octets_decodes
 
 pub octets_writable : Writable (primitive_form (record { 0 = 4 }) octets_contents)
-octets_writable = primitive_writable (record { 0 = 4 }) octets_contents octets_decodes
+octets_writable = primitive_writable (record { 0 = 4 }) octets_contents octets_decodes (λ h. absurd (omega arith))
 
 pub octets_tagged : Tagged (record { 0 = 4 }) (primitive_form (record { 0 = 4 }) octets_contents)
 octets_tagged = primitive_tagged (record { 0 = 4 }) octets_contents

@@ -58,6 +58,10 @@ module _ {X : Type 0} (f : Form X) (law : Writable f) where
   pub raw_alone : (bytes : List ℕ) (x : X) → f.Encodes bytes x → raw_at bytes ≡ Ok (bytes, [])
   raw_alone bytes x encoded = rw append-nil at (raw_again bytes [] (law.written bytes x encoded))
 
+  -- what was written into nothing is the encoding
+  pub encoding_appended : (old new : List ℕ) (x : X) → old ≡ [] → Appends (λ s. f.Encodes s x) old new → new ≡ f.encoding x
+  encoding_appended old new x none a = a.new_is ∙ ap (λ (t : List ℕ). t ++ a.encoding) none ∙ law.is_encoding a.encoding x a.encoded
+
   pub raw_appended : (old new : List ℕ) (x : X) → old ≡ [] → Appends (λ s. f.Encodes s x) old new → raw_at new ≡ Ok (new, [])
   raw_appended old new x none a =
       let new-is : new ≡ a.encoding = a.new_is ∙ ap (λ (t : List ℕ). t ++ a.encoding) none in
