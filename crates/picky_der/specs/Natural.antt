@@ -33,10 +33,10 @@ abbrev pub octets_within : ℕ → ℕ → List ℕ
 octets_within zero n = n ∷ []
 octets_within (suc most) n = if nat_lt n 128 then n ∷ [] else octets_within most (n / 256) ++ n % 256 ∷ []
 
--- the octets of a number, in the fewest
+-- the octets of a number below 2^128, in the fewest
 abbrev pub natural_octets : ℕ → List ℕ
-natural_octets n = octets_within n n
+natural_octets n = octets_within 16 n
 
--- an INTEGER of a type whose numbers are those below the limit
+-- an INTEGER of a type whose numbers are those below the limit, which is 2^128 or less
 abbrev pub natural_contents : ℕ → Contents ℕ
 natural_contents limit = record { in_form = λ n. n < limit; Octets = IsNatural; octets = natural_octets; decode = natural_of limit }

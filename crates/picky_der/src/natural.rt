@@ -1,5 +1,6 @@
 // INTEGERs of an unsigned type.
 ghost use Rattle.std.specs.Prelude.{◌≡◌, ℕ, ◌+◌, ◌<◌, ◌≤◌, ◌^◌, [], OnOk, IfOk, MatchOption};
+ghost use Rattle.std.proofs.Common.{arith};
 ghost use Rattle.picky_der.specs.Length.{number_of};
 ghost use Rattle.picky_der.specs.Reading.{Answers, Moves};
 ghost use Rattle.picky_der.specs.Primitive.{SpellsPrimitive, primitive_at, primitive_form};
@@ -106,7 +107,7 @@ impl DerRead for u8 {
         Ok(read_natural(reader, u8::MAX as u128)? as u8)
     }
 
-    ghost readable = { natural_readable (2 ^ 8) };
+    ghost readable = { natural_readable (2 ^ 8) (Prim.omega arith) };
 }
 
 impl DerWrite for u8 {
@@ -114,7 +115,7 @@ impl DerWrite for u8 {
         write_natural(alloc, *self as u128, out)
     }
 
-    ghost writable = { natural_writable (2 ^ 8) };
+    ghost writable = { natural_writable (2 ^ 8) (Prim.omega arith) };
 }
 
 impl DerTagged for u8 {
@@ -140,7 +141,7 @@ impl DerRead for u16 {
         Ok(read_natural(reader, u16::MAX as u128)? as u16)
     }
 
-    ghost readable = { natural_readable (2 ^ 16) };
+    ghost readable = { natural_readable (2 ^ 16) (Prim.omega arith) };
 }
 
 impl DerWrite for u16 {
@@ -148,7 +149,7 @@ impl DerWrite for u16 {
         write_natural(alloc, *self as u128, out)
     }
 
-    ghost writable = { natural_writable (2 ^ 16) };
+    ghost writable = { natural_writable (2 ^ 16) (Prim.omega arith) };
 }
 
 impl DerTagged for u16 {
@@ -174,7 +175,7 @@ impl DerRead for u32 {
         Ok(read_natural(reader, u32::MAX as u128)? as u32)
     }
 
-    ghost readable = { natural_readable (2 ^ 32) };
+    ghost readable = { natural_readable (2 ^ 32) (Prim.omega arith) };
 }
 
 impl DerWrite for u32 {
@@ -182,7 +183,7 @@ impl DerWrite for u32 {
         write_natural(alloc, *self as u128, out)
     }
 
-    ghost writable = { natural_writable (2 ^ 32) };
+    ghost writable = { natural_writable (2 ^ 32) (Prim.omega arith) };
 }
 
 impl DerTagged for u32 {
@@ -208,7 +209,7 @@ impl DerRead for u64 {
         Ok(read_natural(reader, u64::MAX as u128)? as u64)
     }
 
-    ghost readable = { natural_readable (2 ^ 64) };
+    ghost readable = { natural_readable (2 ^ 64) (Prim.omega arith) };
 }
 
 impl DerWrite for u64 {
@@ -216,7 +217,7 @@ impl DerWrite for u64 {
         write_natural(alloc, *self as u128, out)
     }
 
-    ghost writable = { natural_writable (2 ^ 64) };
+    ghost writable = { natural_writable (2 ^ 64) (Prim.omega arith) };
 }
 
 impl DerTagged for u64 {
@@ -242,7 +243,7 @@ impl DerRead for u128 {
         Ok(read_natural(reader, u128::MAX)?)
     }
 
-    ghost readable = { natural_readable (2 ^ 128) };
+    ghost readable = { natural_readable (2 ^ 128) (Prim.omega arith) };
 }
 
 impl DerWrite for u128 {
@@ -250,7 +251,7 @@ impl DerWrite for u128 {
         write_natural(alloc, *self, out)
     }
 
-    ghost writable = { natural_writable (2 ^ 128) };
+    ghost writable = { natural_writable (2 ^ 128) (Prim.omega arith) };
 }
 
 impl DerTagged for u128 {

@@ -1,5 +1,6 @@
 // Bytes written in hexadecimal, and what is read from them.
 ghost use Rattle.std.specs.Prelude.{◌≡◌, ◌<◌, ◌^◌, ℕ};
+ghost use Rattle.std.proofs.Common.{arith};
 ghost use Rattle.picky_asn1_tag.specs.Default.{one_default};
 ghost use Rattle.picky_der.specs.Primitive.{primitive_form};
 ghost use Rattle.picky_der.specs.Natural.{natural_contents};
@@ -143,7 +144,7 @@ impl DerRead for Ten {
         Ok(Ten(u8::read_der(alloc, reader)?))
     }
 
-    ghost readable = { natural_readable (2 ^ 8) };
+    ghost readable = { natural_readable (2 ^ 8) (Prim.omega arith) };
 }
 
 impl DerWrite for Ten {
@@ -151,7 +152,7 @@ impl DerWrite for Ten {
         self.0.write_der(alloc, out)
     }
 
-    ghost writable = { natural_writable (2 ^ 8) };
+    ghost writable = { natural_writable (2 ^ 8) (Prim.omega arith) };
 }
 
 /// One SEQUENCE of the optional number and then nothing.

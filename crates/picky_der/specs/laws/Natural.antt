@@ -1,6 +1,7 @@
 -- The contents octets of a number at least zero are decoded.
 use Rattle.std.proofs.Common.{◌≡◌, ℕ, zero, suc, ◌+◌, ◌*◌, ◌/◌, ◌%◌, ◌^◌, ◌<◌, ◌≤◌, true, false, cond, ltb, leb, List, [], ◌∷◌, ◌++◌, length, Ok, Err, refl, sym, ap, subst, ◌∙◌, arith, inl, inr}
 use Rattle.std.specs.Prelude.{◌||◌, slice_index}
+use Rattle.std.proofs.Math.Nat.{pow-suc}
 use Rattle.std.proofs.lemmas.Bool.{cases_lt, ne_eqb, ltb-false, ltb-true, le-ltb, lt-ltb, leb-false, lt-leb}
 use Rattle.std.proofs.lemmas.List.{length-append}
 use Rattle.picky_der.specs.declared.fault.DerError.TheVariants.{BadValue}
@@ -56,18 +57,19 @@ IsNatural-push c b n p lt big = record {
 }
 
 -- the octets of a number stand for it
-within-natural : (most n : ℕ) → n ≤ most → IsNatural (octets_within most n) n
-within-natural zero n le = natural_one n (omega arith)
-within-natural (suc most) n le = elim (cases_lt n 128) [
+within-natural : (most n : ℕ) → n < 128 * 256 ^ most → IsNatural (octets_within most n) n
+within-natural zero n lt = natural_one n (omega arith)
+within-natural (suc most) n lt = elim (cases_lt n 128) [
   | inl small ↦ rw (lt-ltb n 128 small) (natural_one n small)
   | inr big ↦
       let parts : n / 256 * 256 + n % 256 ≡ n = omega arith in
-      let front = within-natural most (n / 256) (omega arith) in
+      let few : n / 256 < 128 * 256 ^ most = let p : 256 ^ suc most ≡ 256 ^ most * 256 = pow-suc 256 most in omega arith in
+      let front = within-natural most (n / 256) few in
       rw (le-ltb n 128 big) (subst (IsNatural (octets_within most (n / 256) ++ n % 256 ∷ [])) parts (IsNatural-push (octets_within most (n / 256)) (n % 256) (n / 256) front (omega arith) (omega arith)))
 ]
 
-natural-octets : (n : ℕ) → IsNatural (natural_octets n) n
-natural-octets n = within-natural n n (omega arith)
+natural-octets : (limit n : ℕ) → limit ≤ 2 ^ 128 → n < limit → IsNatural (natural_octets n) n
+natural-octets limit n le lt = within-natural 16 n (omega arith)
 
 -- ---- a number has one list of octets
 
@@ -186,19 +188,19 @@ natural_back limit (b ∷ bs) n lt p =
     let test : ltb (number_of (b ∷ bs)) limit ≡ true = rw p.number (lt-ltb n limit lt) in
     rw (sign, few, test) (ap (λ (t : ℕ). Ok t) p.number)
 
-natural_decodes : (limit : ℕ) → Decodes (natural_contents limit)
-natural_decodes limit = record {
+natural_decodes : (limit : ℕ) → limit ≤ 2 ^ 128 → Decodes (natural_contents limit)
+natural_decodes limit le = record {
   takes = natural_done limit;
   again = natural_back limit;
-  has_octets = λ n _. natural-octets n;
+  has_octets = λ n lt. natural-octets limit n le lt;
   one = λ s t n _ p q. natural-one s t n p q;
 }
 
-pub natural_readable : (limit : ℕ) → Readable (primitive_form (record { 0 = 2 }) (natural_contents limit))
-natural_readable limit = primitive_readable (record { 0 = 2 }) (natural_contents limit) (natural_decodes limit)
+pub natural_readable : (limit : ℕ) → limit ≤ 2 ^ 128 → Readable (primitive_form (record { 0 = 2 }) (natural_contents limit))
+natural_readable limit le = primitive_readable (record { 0 = 2 }) (natural_contents limit) (natural_decodes limit le)
 
-pub natural_writable : (limit : ℕ) → Writable (primitive_form (record { 0 = 2 }) (natural_contents limit))
-natural_writable limit = primitive_writable (record { 0 = 2 }) (natural_contents limit) (natural_decodes limit) (λ h. absurd (omega arith))
+pub natural_writable : (limit : ℕ) → limit ≤ 2 ^ 128 → Writable (primitive_form (record { 0 = 2 }) (natural_contents limit))
+natural_writable limit le = primitive_writable (record { 0 = 2 }) (natural_contents limit) (natural_decodes limit le) (λ h. absurd (omega arith))
 
 pub natural_tagged : (limit : ℕ) → Tagged (record { 0 = 2 }) (primitive_form (record { 0 = 2 }) (natural_contents limit))
 natural_tagged limit = primitive_tagged (record { 0 = 2 }) (natural_contents limit)
