@@ -43,9 +43,11 @@ fn time_numbers(rt: &HostRuntime, count: u32) -> Result<()> {
 // header may announce.
 fn nested_headers(alloc: Global, size: u32) -> Result<Vec<u8>> {
     let mut bytes = Vec::new(alloc);
-    let mut left = size;
-    while left > 65_540 {
-        left -= 5;
+    for count in 1..size / 5 {
+        let left = size.saturating_sub(count.saturating_mul(5));
+        if left < 1 << 16 {
+            break;
+        }
         let length = left.to_be_bytes();
         bytes.extend_from_slice(&[0x30, 0x83])?;
         bytes.extend_from_slice(&length[1..])?;
