@@ -227,19 +227,37 @@ fn a_default_is_left_out(rt: HostRuntime) -> Result<(), Fail> {
     assert!(rt; left_out.as_slice() == bytes_of(alloc, "30 00")?.as_slice());
     let five = write_ten(alloc, 5)?;
     assert!(rt; five.as_slice() == bytes_of(alloc, "30 03 02 01 05")?.as_slice());
-    let mut fields = Vec::new(alloc);
-    Optional(Ten(10)).write_in(alloc, &mut fields)?;
-    ExplicitContextTag0::from(5u8).write_der(alloc, &mut fields)?;
-    let mut whole = Vec::new(alloc);
-    write_value(&mut whole, Tag::SEQUENCE, &fields)?;
-    assert!(rt; whole.as_slice() == bytes_of(alloc, "30 05 A0 03 02 01 05")?.as_slice());
-    let mut inner = DerReader::new(&whole).nested(Tag::SEQUENCE)?;
-    let Optional(Ten(number)) = Optional::read_in(alloc, &mut inner)?;
-    let five: ExplicitContextTag0<u8> = ExplicitContextTag0::read_der(alloc, &mut inner)?;
-    inner.end()?;
-    assert!(rt; number == 10 && five.0 == 5);
     assert!(rt; Optional(Ten(10)).is_default(alloc)?);
     assert!(rt; !Optional(Ten(5)).is_default(alloc)?);
+    Ok(())
+}
+
+// One SEQUENCE of a number that is left out where it is 10, and of a tagged number.
+fn write_fields(alloc: Global, number: u8, tagged: u8) -> Result<Vec<u8>, DerError> {
+    let mut fields = Vec::new(alloc);
+    Optional(Ten(number)).write_in(alloc, &mut fields)?;
+    ExplicitContextTag0::from(tagged).write_der(alloc, &mut fields)?;
+    let mut whole = Vec::new(alloc);
+    write_value(&mut whole, Tag::SEQUENCE, &fields)?;
+    Ok(whole)
+}
+
+// The same, read.
+fn read_fields(alloc: Global, bytes: &[u8]) -> Result<(u8, u8), DerError> {
+    let mut fields = DerReader::new(bytes).nested(Tag::SEQUENCE)?;
+    let Optional(Ten(number)) = Optional::read_in(alloc, &mut fields)?;
+    let tagged: ExplicitContextTag0<u8> = ExplicitContextTag0::read_der(alloc, &mut fields)?;
+    fields.end()?;
+    Ok((number, tagged.0))
+}
+
+#[test]
+fn a_default_stands_before_another_field(rt: HostRuntime) -> Result<(), Fail> {
+    let alloc = rt.alloc();
+    let whole = write_fields(alloc, 10, 5)?;
+    assert!(rt; whole.as_slice() == bytes_of(alloc, "30 05 A0 03 02 01 05")?.as_slice());
+    let (number, tagged) = read_fields(alloc, &whole)?;
+    assert!(rt; number == 10 && tagged == 5);
     Ok(())
 }
 
