@@ -36,15 +36,21 @@ pub fn bytes_of(alloc: Global, text: &str) -> Result<Vec<u8>, AllocError> {
     Ok(bytes)
 }
 
+fn pair_of(alloc: Global, numbers: &[u64]) -> Result<String, AllocError> {
+    match numbers {
+        [first, second] => format!(in alloc; "{first} {second}"),
+        _ => String::from_str(alloc, "-"),
+    }
+}
+
 /// Two numbers with a blank between them where the bytes are a SEQUENCE of these two INTEGERs, else `-`.
 pub fn pair_in(alloc: Global, bytes: &[u8]) -> Result<String, AllocError> {
     let read: Result<Asn1SequenceOf<u64>, DerError> = from_bytes(alloc, bytes);
-    if let Ok(sequence) = &read
-        && let [first, second] = sequence.0.as_slice()
-    {
-        return format!(in alloc; "{first} {second}");
+    match &read {
+        Ok(sequence) => pair_of(alloc, sequence.0.as_slice()),
+        Err(DerError::OutOfMemory) => Err(AllocError),
+        Err(_) => String::from_str(alloc, "-"),
     }
-    String::from_str(alloc, "-")
 }
 
 /// The number, or the name of the fault.

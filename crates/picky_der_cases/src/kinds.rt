@@ -7,7 +7,7 @@ use picky_asn1_wrapper::{
 use picky_der::{AlgorithmIdentifier, DerError, DerRead, DerWrite, from_bytes, to_vec};
 use std::alloc::Global;
 
-/// Whether the bytes are read as a value that is written as the same bytes.
+/// Whether the bytes are read as a value that is written as the same bytes. Want of memory is an error.
 pub fn comes_back<T: DerRead + DerWrite + Drop>(
     alloc: Global,
     bytes: &[u8],
@@ -15,6 +15,7 @@ pub fn comes_back<T: DerRead + DerWrite + Drop>(
     let read: Result<T, DerError> = from_bytes(alloc, bytes);
     match read {
         Ok(value) => Ok(to_vec(alloc, &value)?.as_slice() == bytes),
+        Err(DerError::OutOfMemory) => Err(DerError::OutOfMemory),
         Err(_) => Ok(false),
     }
 }
