@@ -1,5 +1,6 @@
 // Each simple wrapper: made, changed, copied, written, read and given back.
 use crate::cases::bytes_of;
+use crate::checks::{refuses, writes};
 use picky_asn1_bits::BitString;
 use picky_asn1_date::{DateError, GeneralizedTime, UTCTime};
 use picky_asn1_oid::ObjectIdentifier;
@@ -41,8 +42,7 @@ fn are_refused<T: DerRead + Drop>(
     fault: &DerError,
 ) -> Result<(), Fail> {
     for hex in cases {
-        let read: Result<T, DerError> = from_bytes(alloc, &bytes_of(alloc, hex)?);
-        assert!(rt; read.err().as_ref() == Some(fault), "{hex}");
+        refuses::<T>(rt, alloc, hex, fault)?;
     }
     Ok(())
 }

@@ -2,6 +2,7 @@ use crate::cases::{
     Ten, answer, bytes_of, nested_headers, nested_readers, pair_in, read_ten,
     sequences_in_sequences, write_ten,
 };
+use crate::checks::{refuses, writes};
 use crate::kinds::comes_back_as;
 use crate::table::TABLE;
 use crate::types::{TYPES, WRITTEN};
@@ -18,13 +19,6 @@ use std::alloc::Global;
 use std::process::Abort;
 use std::test::Fail;
 
-fn writes<T: DerWrite>(rt: &impl Abort, alloc: Global, value: &T, hex: &str) -> Result<(), Fail> {
-    let bytes = to_vec(alloc, value)?;
-    let expected = bytes_of(alloc, hex)?;
-    assert!(rt; bytes.as_slice() == expected.as_slice());
-    Ok(())
-}
-
 // The bytes are read, and the value that was read is written as the same bytes.
 fn comes_back<T: DerRead + DerWrite + Drop>(
     rt: &impl Abort,
@@ -34,18 +28,6 @@ fn comes_back<T: DerRead + DerWrite + Drop>(
     let bytes = bytes_of(alloc, hex)?;
     let value: T = from_bytes(alloc, &bytes)?;
     writes(rt, alloc, &value, hex)
-}
-
-fn refuses<T: DerRead + Drop>(
-    rt: &impl Abort,
-    alloc: Global,
-    hex: &str,
-    expected: DerError,
-) -> Result<(), Fail> {
-    let bytes = bytes_of(alloc, hex)?;
-    let read: Result<T, DerError> = from_bytes(alloc, &bytes);
-    assert!(rt; read.err() == Some(expected));
-    Ok(())
 }
 
 // Bytes, and what reading them as an INTEGER of one byte answers: each row of the format's own list, and the order of
@@ -93,7 +75,7 @@ fn texts_and_their_tag(rt: HostRuntime) -> Result<(), Fail> {
     let text: String = from_bytes(alloc, &bytes)?;
     assert!(rt; text.as_str() == "苗字");
     writes(&rt, alloc, &text, "0C 06 E8 8B 97 E5 AD 97")?;
-    refuses::<String>(&rt, alloc, "0C 01 FF", DerError::BadValue)
+    refuses::<String>(&rt, alloc, "0C 01 FF", &DerError::BadValue)
 }
 
 fn numbers(alloc: Global, of: &[u32]) -> Result<Asn1SequenceOf<u32>, Fail> {
@@ -143,7 +125,7 @@ fn tags_are_written(rt: HostRuntime) -> Result<(), Fail> {
     writes(&rt, alloc, &implicit, "80 01 01")?;
     comes_back::<ImplicitContextTag0<OctetStringAsn1>>(&rt, alloc, "80 01 01")?;
     comes_back::<ExplicitContextTag0<u8>>(&rt, alloc, "A0 03 02 01 05")?;
-    refuses::<ExplicitContextTag0<u8>>(&rt, alloc, "A0 04 02 01 05 00", DerError::TrailingBytes)
+    refuses::<ExplicitContextTag0<u8>>(&rt, alloc, "A0 04 02 01 05 00", &DerError::TrailingBytes)
 }
 
 // How many lines a table of SEQUENCEs of two numbers has, each of which is read as it says.
@@ -269,7 +251,7 @@ fn values_of_plain_types(rt: HostRuntime) -> Result<(), Fail> {
     writes(&rt, alloc, &true, "01 01 FF")?;
     writes(&rt, alloc, &(), "05 00")?;
     comes_back::<bool>(&rt, alloc, "01 01 FF")?;
-    refuses::<bool>(&rt, alloc, "01 01 01", DerError::BadValue)?;
+    refuses::<bool>(&rt, alloc, "01 01 01", &DerError::BadValue)?;
     let refused = IntegerAsn1::from(bytes_of(alloc, "00 01")?);
     assert!(rt; to_vec(alloc, &refused).err() == Some(DerError::BadValue));
     Ok(())
@@ -306,7 +288,7 @@ fn long_inputs_are_answered(rt: HostRuntime) -> Result<(), Fail> {
         &rt,
         alloc,
         "04 88 80 00 00 00 00 00 00 00",
-        DerError::Truncated,
+        &DerError::Truncated,
     )
 }
 

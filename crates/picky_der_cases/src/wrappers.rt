@@ -1,4 +1,5 @@
 use crate::cases::bytes_of;
+use crate::checks::writes;
 use picky_asn1_bits::{IntegerAsn1, OctetStringAsn1};
 use picky_asn1_tag::{CopyIn, Empty};
 use picky_asn1_wrapper::{
@@ -6,7 +7,7 @@ use picky_asn1_wrapper::{
     ExplicitContextTag0, ExplicitContextTag1, GeneralStringAsn1, HeaderOnly, Ia5StringAsn1,
     ImplicitContextTag2, OctetStringAsn1Container, Optional, Utf8StringAsn1,
 };
-use picky_der::{Asn1RawDer, DerRead, DerReader, DerWrite, from_bytes, to_vec};
+use picky_der::{Asn1RawDer, DerRead, DerReader, DerWrite, from_bytes};
 use std::alloc::Global;
 use std::ops::DerefMut;
 use std::process::Abort;
@@ -60,28 +61,14 @@ fn lists_are_changed_in_place(rt: HostRuntime) -> Result<(), Fail> {
     Ok(())
 }
 
-fn is_encoded_as<T: DerWrite>(
-    rt: &impl Abort,
-    alloc: Global,
-    value: &T,
-    hex: &str,
-) -> Result<(), Fail> {
-    let bytes = to_vec(alloc, value)?;
-    assert!(rt;
-        bytes.as_slice() == bytes_of(alloc, hex)?.as_slice(),
-        "{hex}"
-    );
-    Ok(())
-}
-
 #[test]
 fn tagged_values_are_changed_in_place(rt: HostRuntime) -> Result<(), Fail> {
     let mut tagged: ExplicitContextTag1<u8> = ExplicitContextTag1::from(1);
     *tagged = 2;
-    is_encoded_as(&rt, rt.alloc(), &tagged, "A1 03 02 01 02")?;
+    writes(&rt, rt.alloc(), &tagged, "A1 03 02 01 02")?;
     let mut tagged: ImplicitContextTag2<u8> = ImplicitContextTag2::from(1);
     *tagged = 2;
-    is_encoded_as(&rt, rt.alloc(), &tagged, "82 01 02")
+    writes(&rt, rt.alloc(), &tagged, "82 01 02")
 }
 
 #[test]
