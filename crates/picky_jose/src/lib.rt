@@ -12,8 +12,6 @@ mod header;
 mod jws;
 mod jwt;
 mod signature;
-#[cfg(test)]
-mod tests;
 
 pub use date::{JwtDate, JwtValidator};
 pub use error::{JwsError, JwtError};

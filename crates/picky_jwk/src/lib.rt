@@ -7,8 +7,6 @@ mod alg;
 mod error;
 mod jwk;
 mod set;
-#[cfg(test)]
-mod tests;
 
 pub use alg::JwsAlg;
 pub use error::JwkError;
