@@ -1,17 +1,13 @@
 -- A text has one cut at its first, or last, such byte.
-use Rattle.std.proofs.Common.{◌≡◌, ◌≢◌, ℕ, ◌<◌, ◌≤◌, ◌+◌, List, [], ◌∷◌, ◌++◌, length, take, drop, eqb, Option, Some, None, IfSome, IsSomeAnd, refl, sym, subst, ◌∙◌, Bor}
+use Rattle.std.proofs.Common.{◌≡◌, ◌≢◌, ℕ, ◌<◌, ◌≤◌, ◌+◌, List, ◌∷◌, length, take, drop, eqb, Option, Some, None, IfSome, IsSomeAnd, sym, subst, ◌∙◌, Bor}
 use Rattle.std.specs.Option.{MatchOption}
 use Rattle.std.specs.Str.{NoCharPasses}
 use Rattle.std.specs.Str.Pattern.{RFindsChar}
 use Rattle.std.proofs.lemmas.List.{take-append-drop}
-use Rattle.std.proofs.lemmas.List.Elements.{All-head, All-tail, All-from_get_or}
+use Rattle.std.proofs.lemmas.List.Elements.{All-from_get_or}
 use Rattle.std.proofs.lemmas.Str.Pattern.{IsSplitOnceResult, split_parts, split_after, NoCharPasses-char, drop_at_char}
 use Rattle.picky_contract.specs.Text.{Lacks, IsCutAtFirst, IsCutAtLast}
-
--- a text that lacks a byte has it nowhere inside
-pub lacks-inside : (c : ℕ) (front back : List ℕ) → Lacks c (front ++ c ∷ back) → ⊥
-lacks-inside c [] back h = All-head (λ b. b ≢ c) c back h refl
-lacks-inside c (x ∷ front) back h = lacks-inside c front back (All-tail (λ b. b ≢ c) x (front ++ c ∷ back) h)
+pub use Rattle.picky_contract.specs.laws.Cuts.{lacks-inside, last-once}
 
 pub found_first : (c : ℕ) (bs : List ℕ) (r : Option (Bor (List ℕ) × Bor (List ℕ))) → IsSplitOnceResult c bs r → c < 128
     → IfSome r (λ x. IsCutAtFirst c bs x.0.now x.1.now)
@@ -41,17 +37,6 @@ found_last c bs (Some x) (i, j, finds, front, back, le, front_len, back_len) lt 
       joined = rw (front, back, ← at) (sym (take-append-drop i bs));
       lacks = subst (Lacks c) (sym back) (lacks_from_none c (drop j bs) finds.0 lt);
     }
-
--- two cuts at the last such byte are one
-pub last-once : (c : ℕ) (a x b y : List ℕ) → a ++ c ∷ x ≡ b ++ c ∷ y → Lacks c x → Lacks c y → (a ≡ b) × (x ≡ y)
-last-once c [] x [] y e hx hy = (refl, cc)
-last-once c [] x (d ∷ b) y e hx hy = let t : x ≡ b ++ c ∷ y = cc in absurd (lacks-inside c b y (subst (Lacks c) t hx))
-last-once c (d ∷ a) x [] y e hx hy = let t : y ≡ a ++ c ∷ x = cc in absurd (lacks-inside c a x (subst (Lacks c) t hy))
-last-once c (d ∷ a) x (f ∷ b) y e hx hy =
-    let t : a ++ c ∷ x ≡ b ++ c ∷ y = cc in
-    let p = last-once c a x b y t hx hy in
-    let head : d ≡ f = cc in
-    (cc (p.0), p.1)
 
 pub every_last : (c : ℕ) (bs : List ℕ) (r : Option (Bor (List ℕ) × Bor (List ℕ))) → IsSplitLastResult c bs r → c < 128
     → (front back : List ℕ) → IsCutAtLast c bs front back → IsSomeAnd r (λ x. (x.0.now ≡ front) × (x.1.now ≡ back))

@@ -1,4 +1,4 @@
-pub mod Tables
-pub mod Growing
-pub mod Pairs
+pub use Rattle.picky_contract.specs.laws.Tables
+pub use Rattle.picky_contract.specs.laws.Growing
+pub use Rattle.picky_contract.specs.laws.Pairs
 pub mod Cuts

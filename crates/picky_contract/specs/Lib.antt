@@ -2,3 +2,4 @@ pub mod Refusals
 pub mod Causes
 pub mod Text
 pub mod Rows
+pub mod laws

@@ -4,7 +4,7 @@
 -- value; want of memory may come at any point' is written once, as a table. From it follow which
 -- value is right, that no other is, which refusal is due, and that a right value is never refused
 -- but for want of memory.
-use Rattle.std.specs.Prelude.{◌≡◌, ◌⊎◌, ⊤, List, [], ◌∷◌, Option, Some, None, Result, Ok, Err, IfSome}
+use Rattle.std.specs.Prelude.{◌≡◌, ◌⊎◌, ⊤, Option, Some, None, Result, Ok, Err, IfSome}
 
 -- Conditions in an order, each with its refusal.
 pub record Table (X F : Type 0) : Type 1 where
@@ -47,11 +47,6 @@ named {F = F} g t = record {
   gives = t.gives;
   refuses = λ h. (f : F) × t.refuses f × (h ≡ g f);
 }
-
--- the conditions of each item, in order
-abbrev pub each : {A F : Type 0} → (A → Table ⊤ F) → List A → Table ⊤ F
-each row [] = done tt
-each row (x ∷ xs) = row x >>= λ _. each row xs
 
 -- What the call returned, seen by view, is what the table says. `fault` is none for want of memory.
 abbrev pub Meets : {X Y E F : Type 0} → (X → Y) → (E → Option F) → Result X E → Table Y F → Type 0

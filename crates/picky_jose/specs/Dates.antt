@@ -1,5 +1,5 @@
 -- Dates of claims in whole numbers (RFC 7519, sections 2, 4.1.4 and 4.1.5).
-use Rattle.std.specs.Prelude.{ℕ, ℤ, pos, ◌+ℤ◌, ◌-ℤ◌, ◌<ℤ◌, ◌≤ℤ◌}
+use Rattle.std.specs.Prelude.{ℤ, pos, ◌+ℤ◌, ◌-ℤ◌, ◌<ℤ◌, ◌≤ℤ◌}
 use Rattle.picky_jose.specs.declared.date.JwtDate.{JwtDate}
 
 -- the date is at or after the start less its leeway

@@ -52,3 +52,8 @@ jwt_fault (of_jwt.NotYetValid not_before now) = Some (not_yet_valid not_before n
 jwt_fault (of_jwt.Expired not_after now) = Some (expired not_after now)
 jwt_fault of_jwt.Float = Some has_float
 jwt_fault of_jwt.OutOfMemory = None
+
+-- the error of claims that holds one of a signed token; its want of memory is the outer one
+abbrev pub jwt_error_of : JwsError → JwtError
+jwt_error_of of_jws.OutOfMemory = of_jwt.OutOfMemory
+jwt_error_of source = of_jwt.Jws source

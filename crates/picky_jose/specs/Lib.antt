@@ -6,3 +6,4 @@ pub mod Signatures
 pub mod Views
 pub mod Dates
 pub mod Claims
+pub mod laws

@@ -1,7 +1,7 @@
 -- The reading of a signed token (RFC 7515, section 7.1), and why a text has none, in order.
 --
 -- The cut and the three spellings are whole; the header is of the first form, which `FirstHeaderOf` alone says.
-use Rattle.std.specs.Prelude.{◌≡◌, ℕ, List}
+use Rattle.std.specs.Prelude.{ℕ, List}
 use Rattle.serde_json.specs.Data.{Data}
 use Rattle.picky_contract.specs.Refusals.{Table, the, need, done, ◌>>=◌}
 use Rattle.picky_base64.specs.Base64.{B64}

@@ -83,6 +83,16 @@ impl From<ProviderFault> for JwsError {
     }
 }
 
+impl From<SignatureError> for JwsError {
+    ghost use Rattle.picky_jose.specs.declared.error.JwsError.TheVariants.{Signature};
+
+    ghost from_gives = { λ source e. e ≡ Signature source };
+
+    fn from(source: SignatureError) -> JwsError {
+        JwsError::Signature { source }
+    }
+}
+
 impl From<AllocError> for JwtError {
     ghost use Rattle.picky_jose.specs.declared.error.JwtError.TheVariants.{OutOfMemory};
 
@@ -90,5 +100,18 @@ impl From<AllocError> for JwtError {
 
     fn from(_error: AllocError) -> JwtError {
         JwtError::OutOfMemory
+    }
+}
+
+impl From<JwsError> for JwtError {
+    ghost use Rattle.picky_jose.specs.Faults.{jwt_error_of};
+
+    ghost from_gives = { λ source e. e ≡ jwt_error_of source };
+
+    fn from(source: JwsError) -> JwtError {
+        match source {
+            JwsError::OutOfMemory => JwtError::OutOfMemory,
+            source => JwtError::Jws { source },
+        }
     }
 }

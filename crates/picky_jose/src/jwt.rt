@@ -1,12 +1,11 @@
 // Tokens with claims (RFC 7519).
-ghost use Rattle.std.specs.Prelude.{◌≡◌, IfOk, codes};
+ghost use Rattle.std.specs.Prelude.{◌≡◌, IfOk};
 ghost use Rattle.serde_json.specs.View.{view};
 ghost use Rattle.picky_contract.specs.Refusals.{Meets};
-ghost use Rattle.picky_json.specs.Tree.{member};
-ghost use Rattle.picky_jose.specs.Claims.{claims_table, dates_table, nbf_table, exp_table};
+ghost use Rattle.picky_jose.specs.Claims.{claims_table};
 ghost use Rattle.picky_jose.specs.Faults.{jwt_fault};
 
-use crate::date::{JwtDate, JwtValidator};
+use crate::date::JwtValidator;
 use crate::error::JwtError;
 use crate::header::JwsHeader;
 use crate::jws::Jws;
@@ -72,7 +71,7 @@ impl JwtSig {
         ensures first { Meets claims_of jwt_fault result (claims_table validator.now (unchecked_content self).payload) }
         ensures header { IfOk result (λ x. header_view x.header ≡ (unchecked_content self).header) }
     {
-        let claims = checked_claims(alloc, validator.date(), &self.state.payload)?;
+        let claims = checked_claims(alloc, validator, &self.state.payload)?;
         Ok(Jwt {
             header: self.header,
             state: CheckedState { claims },
@@ -82,8 +81,12 @@ impl JwtSig {
 
 // The claims of a payload, where their dates hold.
 #[tactic(auto, unfolding(crate::specs::Claims::claims_table))]
-fn checked_claims(alloc: Global, date: JwtDate, payload: &[u8]) -> Result<Value, JwtError>
-    ensures { Meets view jwt_fault result (claims_table date payload.now) }
+fn checked_claims(
+    alloc: Global,
+    validator: &JwtValidator,
+    payload: &[u8],
+) -> Result<Value, JwtError>
+    ensures { Meets view jwt_fault result (claims_table validator.now payload.now) }
 {
     let Some(claims) = parse(alloc, payload)? else {
         return Err(JwtError::Json);
@@ -91,51 +94,6 @@ fn checked_claims(alloc: Global, date: JwtDate, payload: &[u8]) -> Result<Value,
     if has_float(&claims) {
         return Err(JwtError::Float);
     }
-    check_dates(date, &claims)?;
+    validator.check_dates(&claims)?;
     Ok(claims)
-}
-
-// Checks `nbf`, then `exp`.
-#[tactic(auto, unfolding(crate::specs::Claims::dates_table))]
-fn check_dates(date: JwtDate, claims: &Value) -> Result<(), JwtError>
-    ensures { Meets (λ u. u) jwt_fault result (dates_table date (view claims.now)) }
-{
-    check_nbf(date, claims)?;
-    check_exp(date, claims)
-}
-
-fn check_nbf(date: JwtDate, claims: &Value) -> Result<(), JwtError>
-    ensures { Meets (λ u. u) jwt_fault result (nbf_table date (member (codes "nbf") (view claims.now))) }
-{
-    let Some(nbf) = claims.get("nbf") else {
-        return Ok(());
-    };
-    let Some(nbf) = nbf.as_i64() else {
-        return Err(JwtError::InvalidRegisteredClaimType { claim: "nbf" });
-    };
-    if !date.is_after(nbf) {
-        return Err(JwtError::NotYetValid {
-            not_before: nbf,
-            now: date,
-        });
-    }
-    Ok(())
-}
-
-fn check_exp(date: JwtDate, claims: &Value) -> Result<(), JwtError>
-    ensures { Meets (λ u. u) jwt_fault result (exp_table date (member (codes "exp") (view claims.now))) }
-{
-    let Some(exp) = claims.get("exp") else {
-        return Ok(());
-    };
-    let Some(exp) = exp.as_i64() else {
-        return Err(JwtError::InvalidRegisteredClaimType { claim: "exp" });
-    };
-    if !date.is_before_strict(exp) {
-        return Err(JwtError::Expired {
-            not_after: exp,
-            now: date,
-        });
-    }
-    Ok(())
 }

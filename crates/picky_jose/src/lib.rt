@@ -5,12 +5,14 @@
 //! - [`JwtDate`], [`JwtValidator`]: which dates hold.
 #![tactic(auto)]
 
+mod claims;
 mod cut;
 mod date;
 mod error;
 mod header;
 mod jws;
 mod jwt;
+pub mod laws;
 mod signature;
 
 pub use date::{JwtDate, JwtValidator};

@@ -1,3 +1,4 @@
 pub mod Tree
 pub mod Object
 pub mod Text
+pub mod laws

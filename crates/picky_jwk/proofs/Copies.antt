@@ -1,5 +1,5 @@
 -- Keys copied one after another.
-use Rattle.std.proofs.Common.{◌≡◌, ℕ, ◌+◌, ◌<◌, ◌≤◌, List, [], ◌∷◌, ◌++◌, length, get_or, take, map, refl, sym, ap, ◌∙◌}
+use Rattle.std.proofs.Common.{◌≡◌, ℕ, ◌+◌, ◌<◌, ◌≤◌, List, [], ◌∷◌, ◌++◌, length, get_or, take, refl, sym, ap, ◌∙◌}
 use Rattle.std.proofs.lemmas.List.{take_more, map-append, take_all}
 use Rattle.picky_jwk.specs.declared.jwk.Jwk.{Jwk}
 use Rattle.picky_jwk.specs.Jwk.{jwk_view, jwks_view}

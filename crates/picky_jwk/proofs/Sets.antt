@@ -1,20 +1,13 @@
 -- The keys of a text are those of its items.
-use Rattle.std.proofs.Common.{◌≡◌, ℕ, List, [], ◌∷◌, Some, refl, sym, ap, ◌∙◌, subst}
+use Rattle.std.proofs.Common.{◌≡◌, ℕ, List, Some, sym, ap, ◌∙◌, subst}
 use Rattle.std.specs.List.{AllZip}
 use Rattle.serde_json.specs.Data.{Data, Items}
 use Rattle.serde_json.specs.View.{items_of}
 use Rattle.picky_json.specs.Tree.{Tree}
 use Rattle.picky_jwk.specs.declared.jwk.JwkEdPublicKeyAlgorithm.TheVariants.{Ed25519}
 use Rattle.picky_jwk.specs.Jwk.{Jwk, ed}
+use Rattle.picky_jwk.specs.laws.Keys.{one_list}
 use Rattle.picky_jwk.specs.Keys.{Texts, TextsOf, IsEd25519Text, FirstKeyOf, ItemsOf, FirstKeysOf}
-
-one_list : (xs ys : List Data) → items_of xs ≡ items_of ys → xs ≡ ys
-one_list [] [] e = refl
-one_list [] (y ∷ ys) e = cc
-one_list (x ∷ xs) [] e = cc
-one_list (x ∷ xs) (y ∷ ys) e =
-    let rest : items_of xs ≡ items_of ys = cc in
-    cc (one_list xs ys rest)
 
 pub keys_from : (text : List ℕ) (t : Data) (vs : List Data) → ((u : Data) → Tree text u → u ≡ t) → ((is : Items) → ItemsOf t is → is ≡ items_of vs)
     → (ks : List Jwk) → FirstKeysOf text ks → AllZip FirstKeyOf vs ks

@@ -3,7 +3,7 @@ ghost use Rattle.std.specs.Prelude.{◌≡◌, IfOk, List, string_bytes};
 ghost use Rattle.picky_contract.specs.Refusals.{Meets, OkOrMemory};
 ghost use Rattle.picky_jwk.specs.Jwk.{jwk_view, key_type_view, set_view, Jwk as JwkView};
 ghost use Rattle.picky_jwk.specs.Keys.{FirstKeysOf};
-ghost use Rattle.picky_jwk.specs.Refusals.{fault, key_table, keys_table};
+ghost use Rattle.picky_jwk.specs.Refusals.{fault, ed_algorithm, key_table, keys_table};
 
 use crate::error::JwkError;
 use crate::set::keys_in;
@@ -44,15 +44,12 @@ pub struct JwkSet {
     pub keys: Vec<Jwk>,
 }
 
-impl From<JwkEdPublicKeyAlgorithm> for EdAlgorithm {
-    ghost use Rattle.picky_jwk.specs.Refusals.{ed_algorithm};
-
-    ghost from_gives = { λ crv a. a ≡ ed_algorithm crv };
-
-    fn from(crv: JwkEdPublicKeyAlgorithm) -> EdAlgorithm {
-        match crv {
-            JwkEdPublicKeyAlgorithm::Ed25519 => EdAlgorithm::Ed25519,
-        }
+// The algorithm of a key of this curve.
+fn ed_algorithm_of(crv: JwkEdPublicKeyAlgorithm) -> EdAlgorithm
+    ensures { result ≡ ed_algorithm crv }
+{
+    match crv {
+        JwkEdPublicKeyAlgorithm::Ed25519 => EdAlgorithm::Ed25519,
     }
 }
 
@@ -108,7 +105,7 @@ impl Jwk {
                 let Some(bytes) = picky_base64::decode(alloc, Form::Url, &key.x)? else {
                     return Err(JwkError::Base64Decoding);
                 };
-                let algorithm = EdAlgorithm::from(key.crv);
+                let algorithm = ed_algorithm_of(key.crv);
                 match PublicKey::from_ed_encoded_components(algorithm, bytes) {
                     Ok(key) => Ok(key),
                     Err(_) => Err(JwkError::InvalidEdPublicKey {

@@ -6,6 +6,7 @@
 mod alg;
 mod error;
 mod jwk;
+pub mod laws;
 mod set;
 
 pub use alg::JwsAlg;

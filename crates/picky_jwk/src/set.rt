@@ -50,7 +50,7 @@ fn items_of(tree: &Value) -> Option<&Vec<Value>>
 }
 
 // The keys of all items.
-#[tactic(auto, using(picky_contract::proofs::Growing::grows_turn, picky_contract::proofs::Growing::grows_end))]
+#[tactic(auto, using(picky_contract::specs::laws::Growing::grows_turn, picky_contract::specs::laws::Growing::grows_end))]
 fn keys_of(alloc: Global, items: &Vec<Value>) -> Result<Option<Vec<Jwk>>, AllocError>
     ensures { IfOk result (Finds (λ v. jwks_view v.items) (AllZip FirstKeyOf (map view items.now.items))) }
 {

@@ -4,7 +4,6 @@ use Rattle.std.proofs.Common.{◌≡◌, ℕ, ◌<◌, List, [], ◌∷◌, ◌+
 use Rattle.std.proofs.lemmas.List.{append-nil}
 use Rattle.std.proofs.lemmas.Bool.{eqb-true}
 use Rattle.picky_contract.specs.Text.{IsCutAtFirst}
-use Rattle.picky_contract.specs.Refusals.{Finds}
 use Rattle.picky_key.specs.declared.recorded.Signature.{Signature}
 use Rattle.picky_key.specs.Records.{line_feed, FirstSignatureOf, FirstRecordsOf}
 

@@ -1,5 +1,5 @@
 -- A line that records a signature, by its fields.
-use Rattle.std.proofs.Common.{◌≡◌, ℕ, ◌<◌, List, length, sym, subst}
+use Rattle.std.proofs.Common.{◌≡◌, ℕ, ◌<◌, List, length, subst}
 use Rattle.picky_base64.specs.Base64.{B64}
 use Rattle.picky_base64.specs.declared.Form.TheVariants.{Url}
 use Rattle.picky_key.specs.declared.key.PublicKeyKind.{PublicKeyKind}

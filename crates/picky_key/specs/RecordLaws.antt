@@ -1,5 +1,5 @@
 -- What holds of all records.
-use Rattle.std.specs.Prelude.{◌≡◌, ℕ, List, [], ◌∷◌, IsTrue}
+use Rattle.std.specs.Prelude.{ℕ, List, [], ◌∷◌, IsTrue}
 use Rattle.std.proofs.Common.{inl, inr, refl, subst}
 use Rattle.picky_key.specs.declared.key.PublicKeyKind.{PublicKeyKind}
 use Rattle.picky_key.specs.declared.algorithm.SignatureAlgorithm.{SignatureAlgorithm}
@@ -8,7 +8,7 @@ use Rattle.picky_key.specs.declared.algorithm.EdAlgorithm.TheVariants as ed
 use Rattle.picky_key.specs.declared.key.PublicKeyKind.TheVariants.{Ed}
 use Rattle.picky_key.specs.declared.recorded.Signature.{Signature}
 use Rattle.picky_key.specs.Family.{is_of_family}
-use Rattle.picky_key.specs.Records.{Signs, IsOf}
+use Rattle.picky_key.specs.Records.{Signs}
 
 ed25519_serves : (k : PublicKeyKind) → IsTrue (is_of_family Ed25519 k)
 ed25519_serves (Ed ed.Ed25519 bytes) = refl

@@ -1,5 +1,5 @@
 // The provider that answers from recorded signatures.
-ghost use Rattle.std.specs.Prelude.{◌≡◌, ◌↔◌, ℕ, List, IsTrue, IfOk};
+ghost use Rattle.std.specs.Prelude.{◌≡◌, ◌↔◌, ℕ, List, IsTrue, IfOk, IsOk};
 ghost use Rattle.picky_contract.specs.Refusals.{Finds, Meets, OkOrMemory, the};
 ghost use Rattle.picky_key.specs.Records.{FirstRecordsOf, FirstSignatureOf, FieldsOf, KeyOf, fields_view};
 
@@ -192,6 +192,7 @@ impl KeyProvider for Recorded {
 
     ghost signs_in_family = { λ p k a m s signed. signs_in_family_lem p k a m s signed };
 
+    /// Whether some line has that key, algorithm, message and signature. No memory is taken.
     fn verify(
         &self,
         _alloc: Global,
@@ -199,7 +200,10 @@ impl KeyProvider for Recorded {
         algorithm: SignatureAlgorithm,
         message: &[u8],
         signature: &[u8],
-    ) -> Result<bool, ProviderFault> {
+    ) -> Result<bool, ProviderFault>
+        ensures means { IfOk result (λ holds. IsTrue holds ↔ Signs self.now key.now algorithm message.now signature.now) }
+        ensures takes_none { IsOk result }
+    {
         let mut rest = self.signatures.as_slice();
         while let [first, after @ ..] = rest {
             if first.is_of(key, algorithm, message, signature) {

@@ -1,5 +1,5 @@
 use Rattle.std.proofs.Common.{◌∙◌}
-use Rattle.picky_base64.proofs.Encoding.{encode_of_lem, refused, only}
+use Rattle.picky_base64.specs.laws.Encoding.{encode_of_lem, refused, only}
 use Rattle.picky_base64.proofs.decode.Goals as goal
 
 pub returns-in-Ok : goal.returns-in-Ok

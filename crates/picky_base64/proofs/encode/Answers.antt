@@ -1,6 +1,6 @@
 use Rattle.std.proofs.Common.{arith, ◌∙◌}
 use Rattle.std.proofs.lemmas.Result.{IfOk-weaker}
-use Rattle.picky_base64.proofs.Encoding.{encode_of_lem}
+use Rattle.picky_base64.specs.laws.Encoding.{encode_of_lem}
 use Rattle.picky_base64.proofs.encode.Goals as goal
 
 pub returns : goal.returns

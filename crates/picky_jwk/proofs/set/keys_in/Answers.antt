@@ -1,7 +1,7 @@
 use Rattle.std.proofs.Common.{◌≢◌, map, sym, ◌∙◌, true≢false}
 use Rattle.serde_json.specs.View.{view}
 use Rattle.picky_jwk.specs.Jwk.{jwk_view}
-use Rattle.picky_contract.proofs.Pairs.{pairs_map, pairs_unmap}
+use Rattle.picky_contract.specs.laws.Pairs.{pairs_map, pairs_unmap}
 use Rattle.picky_jwk.proofs.Sets.{keys_from}
 use Rattle.picky_jwk.proofs.set.keys_in.Goals as goal
 

@@ -1,7 +1,7 @@
 use Rattle.serde_json.specs.View.{view}
 use Rattle.picky_jwk.specs.Keys.{FirstKeyOf}
 use Rattle.picky_jwk.specs.Jwk.{jwk_view}
-use Rattle.picky_contract.proofs.Growing.{grows_stop}
+use Rattle.picky_contract.specs.laws.Growing.{grows_stop}
 use Rattle.picky_jwk.proofs.set.keys_of.Goals as goal
 
 pub returns-in_default : goal.returns-in_default

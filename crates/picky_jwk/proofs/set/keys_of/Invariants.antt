@@ -3,7 +3,7 @@ use Rattle.std.specs.List.{AllZip}
 use Rattle.serde_json.specs.View.{view}
 use Rattle.picky_jwk.specs.Keys.{FirstKeyOf}
 use Rattle.picky_jwk.specs.Jwk.{jwks_view}
-use Rattle.picky_contract.proofs.Growing.{Grows}
+use Rattle.picky_contract.specs.laws.Growing.{Grows}
 use Rattle.picky_jwk.proofs.set.keys_of.Given as goal
 
 abbrev pub invariant-loop-item : goal.invariant-loop-item

@@ -1,4 +1,4 @@
-use Rattle.std.proofs.Common.{◌<◌, length, arith, sym, ◌∙◌}
+use Rattle.std.proofs.Common.{◌<◌, length, sym, ◌∙◌}
 use Rattle.picky_key.proofs.Lines.{some_of, no_some}
 use Rattle.picky_key.proofs.Signatures.{no_signature, no_key, no_message, not_base64, recorded}
 use Rattle.picky_key.proofs.recorded.signature_of.Goals as goal

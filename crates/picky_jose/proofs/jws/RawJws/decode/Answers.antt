@@ -1,9 +1,9 @@
 use Rattle.std.specs.Cow.{cow_str_bytes}
 use Rattle.std.proofs.lemmas.Result.{IfOk-weaker}
-use Rattle.picky_contract.proofs.Tables.{found, complete}
+use Rattle.picky_contract.specs.laws.Tables.{found, complete}
 use Rattle.picky_jose.specs.Faults.{jws_fault}
 use Rattle.picky_jose.specs.Refusals.{reading_of, token_table}
-use Rattle.picky_jose.proofs.Readings.{token_exact, from_reading, to_reading}
+use Rattle.picky_jose.specs.laws.Readings.{token_exact, from_reading, to_reading}
 use Rattle.picky_jose.proofs.jws.RawJws.decode.Goals as goal
 
 pub returns-clause-found : goal.returns-clause-found

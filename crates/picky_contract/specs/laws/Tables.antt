@@ -1,7 +1,7 @@
 -- A table says one thing: a value for which its conditions hold is the only one, and then no refusal is due.
-use Rattle.std.proofs.Common.{ℕ, ◌+◌, ◌<◌, List, [], ◌∷◌, length, get_or, drop, drop-cons, add-one, ◌≡◌, IfSome, inl, inr, Option, Some, None, option_map, Result, Ok, Err, IfOk, refl, sym, ap, subst, ◌∙◌}
-use Rattle.std.specs.Prelude.{⊤, ◌⊎◌, IsErrAnd}
-use Rattle.picky_contract.specs.Refusals.{Table, the, need, done, each, named, ◌>>=◌, Meets, OkOrMemory}
+use Rattle.std.proofs.Common.{◌≡◌, IfSome, inl, inr, Option, Some, None, option_map, Result, Ok, Err, IfOk, refl, sym, ap, subst, ◌∙◌}
+use Rattle.std.specs.Prelude.{◌⊎◌, IsErrAnd}
+use Rattle.picky_contract.specs.Refusals.{Table, the, need, done, named, ◌>>=◌, Meets, OkOrMemory}
 
 pub record Exact {X F : Type 0} (t : Table X F) : Type 0 where
   pub holds : (x : X) → t.gives x → t.holds x
@@ -77,10 +77,6 @@ pub last_meets : {X Y E F : Type 0} (view : X → Y) (fault : E → Option F) (r
 last_meets view fault (Ok x) t whole g s m = g (view x) m
 last_meets view fault (Err e) t whole g s m = up (fault e) t.refuses whole.refuses s m
 
-pub each_exact : {A F : Type 0} (row : A → Table ⊤ F) → ((x : A) → Exact (row x)) → (xs : List A) → Exact (each row xs)
-each_exact row e [] = done_exact tt
-each_exact row e (x ∷ xs) = then_exact (row x) (λ _. each row xs) (e x) (λ _. each_exact row e xs)
-
 -- t is what is left of whole, after steps that gave values
 pub record Leads {X F : Type 0} (t whole : Table X F) : Type 0 where
   pub gives : (x : X) → t.gives x → whole.gives x
@@ -97,19 +93,6 @@ leads_refuses t next whole f r l = l.refuses f (inl r)
 
 pub leads_meets : {X Y E F : Type 0} (view : X → Y) (fault : E → Option F) (r : Result X E) (t whole : Table Y F) → Leads t whole → Meets view fault r t → Meets view fault r whole
 leads_meets view fault r t whole l m = last_meets view fault r t whole l.gives l.refuses m
-
--- one turn of a loop over items
-pub leads_each : {A F : Type 0} (row : A → Table ⊤ F) (xs : List A) (i : ℕ) (d : A) (whole : Table ⊤ F) → i < length xs → (row (get_or xs i d)).gives tt
-    → Leads (each row (drop i xs)) whole → Leads (each row (drop (i + 1) xs)) whole
-leads_each row xs i d whole lt h l =
-    let parts : drop i xs ≡ get_or xs i d ∷ drop (i + 1) xs = rw (add-one) (drop-cons xs i d lt) in
-    leads_on (row (get_or xs i d)) (λ _. each row (drop (i + 1) xs)) whole tt h (subst (λ ys. Leads (each row ys) whole) parts l)
-
-pub refuses_each : {A F : Type 0} (row : A → Table ⊤ F) (xs : List A) (i : ℕ) (d : A) (whole : Table ⊤ F) (f : F) → i < length xs → (row (get_or xs i d)).refuses f
-    → Leads (each row (drop i xs)) whole → whole.refuses f
-refuses_each row xs i d whole f lt r l =
-    let parts : drop i xs ≡ get_or xs i d ∷ drop (i + 1) xs = rw (add-one) (drop-cons xs i d lt) in
-    leads_refuses (row (get_or xs i d)) (λ _. each row (drop (i + 1) xs)) whole f r (subst (λ ys. Leads (each row ys) whole) parts l)
 
 -- ---- refusals under another name
 

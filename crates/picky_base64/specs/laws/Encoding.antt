@@ -89,6 +89,7 @@ spelled_once form e a b symbols pad config consistent fa fb same =
     let both : Ok b ≡ Ok a = sym (decode_of-encode_of e b consistent fb) ∙ ap (decode_of e) (sym written) ∙ decode_of-encode_of e a consistent fa in
     cc
 
+-- a text spells one list of bytes at most
 pub once : (form : Form) (text a b : List ℕ) → B64 form text a → B64 form text b → b ≡ a
 once Url text a b is also = spelled_once Url url_safe_no_pad a b refl refl refl refl is.fits also.fits (sym is.spelled ∙ also.spelled)
 once Standard text a b is also = spelled_once Standard standard a b refl refl refl refl is.fits also.fits (sym is.spelled ∙ also.spelled)
