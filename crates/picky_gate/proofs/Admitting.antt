@@ -36,7 +36,7 @@ claimed_exact : (d : JwtDate) (name : List ℕ) (header : Header) (payload : Lis
 unfolding claimed_table
 claimed_exact d name header payload =
     then_exact _ _ (the_exact (FirstClaimsOf payload) unbuilt) (λ c.
-    then_exact _ _ (need_exact (IsBeforeEnd d c.exp) (of_token (Some (expired c.exp d)))) (λ _.
+    then_exact _ _ (need_exact (IsBeforeEnd d c.exp) (of_token (expired c.exp d))) (λ _.
     done_exact (token name header c.tree)))
 
 judged_exact : (signs : Relation) (d : JwtDate) (t : FirstText) (key : NamedKey) → Exact (judged_table signs d t key)

@@ -70,18 +70,18 @@ module _ (d : JwtDate) where
       let fits = accepted payload c.0 t c.1 gives in
       (c.0, (c.1, c.2), (tt, fits.0, ap (λ (s : Data). token name header s) fits.1))
 
-  late : (name : List ℕ) (header : Header) (payload : List ℕ) (c : Claims) → FirstClaimsOf payload c → ((y : Claims) → FirstClaimsOf payload y → y ≡ c) → (f : JwtFault) → (f ≡ expired c.exp d) × (¬ (IsBeforeEnd d c.exp)) → (claimed_table d name header payload).refuses (of_token (Some f))
+  late : (name : List ℕ) (header : Header) (payload : List ℕ) (c : Claims) → FirstClaimsOf payload c → ((y : Claims) → FirstClaimsOf payload y → y ≡ c) → (f : JwtFault) → (f ≡ expired c.exp d) × (¬ (IsBeforeEnd d c.exp)) → (claimed_table d name header payload).refuses (of_token f)
   unfolding claimed_table
-  late name header payload c h one f (is, past) = inr (c, (h, one), inl (ap (λ (g : JwtFault). of_token (Some g)) is, past))
+  late name header payload c h one f (is, past) = inr (c, (h, one), inl (ap of_token is, past))
 
   -- a token with claims out of time
-  pub claimed_refuses : (name : List ℕ) (header : Header) (payload : List ℕ) (o : Option FirstClaims) → Finds claims_view (FirstClaimsOf payload) o → is_none o ≡ false → (f : JwtFault) → (claims_table d payload).refuses f → (claimed_table d name header payload).refuses (of_token (Some f))
+  pub claimed_refuses : (name : List ℕ) (header : Header) (payload : List ℕ) (o : Option FirstClaims) → Finds claims_view (FirstClaimsOf payload) o → is_none o ≡ false → (f : JwtFault) → (claims_table d payload).refuses f → (claimed_table d name header payload).refuses (of_token f)
   claimed_refuses name header payload o found some f due =
       let c = some_claims payload o found some in
       late name header payload c.0 c.1 c.2 f (refused payload c.0 f c.1 due)
 
   -- the same, where the error is taken over
   pub claimed_meets : (name : List ℕ) (header : Header) (payload : List ℕ) (o : Option FirstClaims) → Finds claims_view (FirstClaimsOf payload) o → is_none o ≡ false → (f : Option JwtFault) (r : Refusal)
-      → IfSome f (claims_table d payload).refuses → MatchOption f (r ≡ OutOfMemory) (λ g. cause_of r ≡ Some (of_token (Some g))) → IfSome (cause_of r) (claimed_table d name header payload).refuses
+      → IfSome f (claims_table d payload).refuses → MatchOption f (r ≡ OutOfMemory) (λ g. cause_of r ≡ Some (of_token g)) → IfSome (cause_of r) (claimed_table d name header payload).refuses
   claimed_meets name header payload o found some None r due is = subst (λ (q : Refusal). IfSome (cause_of q) (claimed_table d name header payload).refuses) (sym is) tt
   claimed_meets name header payload o found some (Some f) r due is = subst (λ (q : Option Cause). IfSome q (claimed_table d name header payload).refuses) (sym is) (claimed_refuses name header payload o found some f due)

@@ -3,7 +3,6 @@ use Rattle.std.proofs.Common.{◌≡◌, inl, inr, ◌≤◌, ◌+◌, ℕ, List
 use Rattle.std.proofs.lemmas.List.{take_all, length-take}
 use Rattle.picky_contract.proofs.Tables.{Exact, the_exact, need_exact, done_exact, then_exact, named_exact, Leads, leads_itself, then_leads, named_leads}
 use Rattle.picky_json.specs.Tree.{FloatFree}
-use Rattle.picky_key.specs.declared.recorded.RecordFault.TheVariants.{Unbuilt}
 use Rattle.picky_key.specs.Records.{FirstRecordsOf, Signs}
 use Rattle.picky_jwk.specs.Refusals.{unbuilt}
 use Rattle.picky_gate.specs.declared.documents.Document.TheVariants as document
@@ -11,7 +10,7 @@ use Rattle.picky_gate.specs.declared.documents.Documents.{Documents}
 use Rattle.picky_gate.specs.Admissible.{Admission}
 use Rattle.picky_gate.specs.Command.{Admit}
 use Rattle.picky_gate.specs.Documents.{limit, text_table, records_table, keys_table, keys_decision, decision, IsAdmissible}
-use Rattle.picky_gate.specs.Faults.{too_long, not_utf8, of_keys, of_records, bad, refused}
+use Rattle.picky_gate.specs.Faults.{too_long, not_utf8, of_keys, unbuilt_records, bad, refused}
 use Rattle.picky_gate.specs.Lines.{claims_of}
 use Rattle.picky_gate.specs.Moment.{date_at}
 use Rattle.picky_gate.specs.Refusals.{admits_table}
@@ -27,7 +26,7 @@ text_exact doc =
 
 records_exact : (doc : List ℕ) → Exact (records_table doc)
 unfolding records_table
-records_exact doc = then_exact _ _ (text_exact doc) (λ text. the_exact (FirstRecordsOf text) (of_records Unbuilt))
+records_exact doc = then_exact _ _ (text_exact doc) (λ text. the_exact (FirstRecordsOf text) unbuilt_records)
 
 keys_exact : (doc : List ℕ) → Exact (keys_table doc)
 unfolding keys_table

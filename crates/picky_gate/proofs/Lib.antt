@@ -1,4 +1,5 @@
 pub mod Pieces
+pub mod Fetching
 pub mod Values
 pub mod Moments
 pub mod TextMaps

@@ -86,7 +86,7 @@ claimed_single : (d : JwtDate) (name : List ℕ) (header : Header) (payload : Li
 unfolding claimed_table
 claimed_single d name header payload =
     then_single _ _ (the_single (FirstClaimsOf payload) unbuilt (one_claims payload)) (λ c.
-    then_single _ _ (need_single (IsBeforeEnd d c.exp) (of_token (Some (expired c.exp d)))) (λ _.
+    then_single _ _ (need_single (IsBeforeEnd d c.exp) (of_token (expired c.exp d))) (λ _.
     done_single (token name header c.tree)))
 
 judged_single : (signs : Relation) (d : JwtDate) (t : FirstText) (key : NamedKey) → Single (judged_table signs d t key)

@@ -10,19 +10,20 @@ pub record Written (before : Option (List ℕ)) (bytes rest : List ℕ) (now : O
   pub split : done ++ rest ≡ bytes
   pub added : Adds before done now
 
-adds_nothing : (before : Option (List ℕ)) → Adds before [] before
-adds_nothing None = tt
-adds_nothing (Some old) = ap (λ (l : List ℕ). Some l) (sym (append-nil old))
+module _ {A : Type 0} where
+  pub adds_nothing : (before now : Option (List A)) → now ≡ before → Adds before [] now
+  adds_nothing None now same = tt
+  adds_nothing (Some old) now same = same ∙ ap (λ (l : List A). Some l) (sym (append-nil old))
 
-adds_more : (before now later : Option (List ℕ)) (a b : List ℕ) → Adds before a now → Adds now b later → Adds before (a ++ b) later
-adds_more None now later a b first second = tt
-adds_more (Some old) now later a b first second =
-    let told : Adds (Some (old ++ a)) b later = subst (λ (o : Option (List ℕ)). Adds o b later) first second in
-    told ∙ ap (λ (l : List ℕ). Some l) (append_assoc old a b)
+  pub adds_more : (before now later : Option (List A)) (a b : List A) → Adds before a now → Adds now b later → Adds before (a ++ b) later
+  adds_more None now later a b first second = tt
+  adds_more (Some old) now later a b first second =
+      let told : Adds (Some (old ++ a)) b later = subst (λ (o : Option (List A)). Adds o b later) first second in
+      told ∙ ap (λ (l : List A). Some l) (append_assoc old a b)
 
 -- at the start nothing was
 pub written_none : (before : Option (List ℕ)) (bytes : List ℕ) → Written before bytes bytes before
-written_none before bytes = record { done = []; split = refl; added = adds_nothing before }
+written_none before bytes = record { done = []; split = refl; added = adds_nothing before before refl }
 
 -- one more piece was
 pub written_more : (before : Option (List ℕ)) (bytes rest : List ℕ) (now later : Option (List ℕ)) (n : ℕ) → Written before bytes rest now → Adds now (take n rest) later → Written before bytes (take (length rest - n) (drop n rest)) later

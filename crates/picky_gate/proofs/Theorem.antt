@@ -1,6 +1,8 @@
 -- What the program says is what the decision says of the documents that the cabinet tells.
 use Rattle.std.proofs.Common.{◌≡◌, inl, inr, ◌≤◌, ◌<◌, ◌+◌, ◌⊎◌, ℕ, List, [], ◌∷◌, take, Option, Some, sym, subst, arith}
 use Rattle.picky_contract.proofs.Tables.{Leads}
+use Rattle.picky_gate.specs.declared.documents.Document.{Document}
+use Rattle.picky_gate.specs.declared.documents.Document.TheVariants.{Keys, Records}
 use Rattle.picky_gate.specs.declared.documents.Documents.{Documents}
 use Rattle.picky_gate.specs.Admissible.{Admission}
 use Rattle.picky_gate.specs.Command.{Text, Admit, IsCommand}
@@ -8,8 +10,10 @@ use Rattle.picky_gate.specs.Documents.{limit, decision, IsAdmissible}
 use Rattle.picky_gate.specs.Faults.{Why, bad, refused}
 use Rattle.picky_gate.specs.Headline.{Tells, IsTaken, Says, Headline}
 use Rattle.picky_gate.specs.Lines.{admitted_text, why_status, why_text}
+use Rattle.picky_gate.specs.Outcome.{Asks, Outcome}
 use Rattle.picky_gate.specs.Outside.{IsFetched, Adds}
-use Rattle.picky_gate.specs.Reply.{Contents, Reply, usage, unread, admitted, failed, ComesTo, IsAnswer, IsReply, reply_text, reply_status, Delivers, Replies}
+use Rattle.picky_gate.specs.Reply.{Reply, usage, unread, admitted, failed, ComesTo, IsAnswer, IsReply, reply_text, reply_status, Delivers, Replies}
+use Rattle.picky_gate.specs.Run.{Run, FetchFailed, WriteFailed, Asked, Wrote, paths_of, paths_to}
 use Rattle.picky_gate.proofs.Deciding.{decision_exact, to_words, from_words, fetched_leads}
 
 -- words are one command at most
@@ -23,137 +27,213 @@ one_command (w ∷ words) c d first second =
     let now : d.now ≡ c.now = cc (first.1.moment.value, second.1.moment.value) in
     λ i. record { keys = keys i; records = records i; text = text i; now = now i }
 
-module _ (words : List Text) (content : Contents) (c : Admit) (told : Documents) (tells : Tells words content c told) where
+-- a text that was not cut was written whole, with its status
+not_six : (text : List ℕ) (code room status : ℕ) (before after : Option (List ℕ)) → Delivers text code room before after status → ¬ (status ≡ 6) → (status ≡ code) × Adds before text after
+not_six text code room status before after (inl all) never = all
+not_six text code room status before after (inr cut) never = absurd (never cut.0)
+
+module _ (run : Run) (c : Admit) (told : Documents) (tells : Tells run c told) where
   on : (docs : Documents) → Leads (decision c docs) (decision c told) → (reply : Reply) → ComesTo c docs reply → ComesTo c told reply
   on docs l usage none = none
   on docs l (unread document) none = none
   on docs l (admitted a) gives = l.gives a gives
   on docs l (failed why) refuses = l.refuses why refuses
 
-  comes : (reply : Reply) → IsAnswer words content reply → ComesTo c told reply
+  comes : (reply : Reply) → IsAnswer run reply → ComesTo c told reply
   comes reply is =
-      let same : is.command ≡ c = one_command words c is.command tells.command is.is_command in
-      let brought : (path : Admit → Text) (bytes doc : List ℕ) → content (path c) ≡ Some doc → IsFetched (content (path is.command)) limit bytes → bytes ≡ take (limit + 1) doc = λ path bytes doc tell fetched. subst (λ (o : Option (List ℕ)). IsFetched o limit bytes) tell (subst (λ (b : Admit). IsFetched (content (path b)) limit bytes) same fetched) in
+      let same : is.command ≡ c = one_command run.words c is.command tells.command is.is_command in
+      let brought : (path : Admit → Text) (bytes doc : List ℕ) → run.content (path c) ≡ Some doc → IsFetched (run.content (path is.command)) limit bytes → bytes ≡ take (limit + 1) doc = λ path bytes doc tell fetched. subst (λ (o : Option (List ℕ)). IsFetched o limit bytes) tell (subst (λ (b : Admit). IsFetched (run.content (path b)) limit bytes) same fetched) in
       let keys = brought (λ b. b.keys) is.docs.keys told.keys tells.keys is.fetched.keys in
       let records = brought (λ b. b.records) is.docs.records told.records tells.records is.fetched.records in
       on is.docs (fetched_leads c told is.docs keys records) reply (subst (λ (b : Admit). ComesTo b is.docs reply) same is.comes_to)
 
--- a text that was not cut was written whole, with its status
-not_six : (text : List ℕ) (code room status : ℕ) (before after : Option (List ℕ)) → Delivers text code room before after status → ¬ (status ≡ 6) → (status ≡ code) × Adds before text after
-not_six text code room status before after (inl all) never = all
-not_six text code room status before after (inr cut) never = absurd (never cut.0)
+module _ (run : Run) where
+  -- the whole text, with this status
+  abbrev Whole : ℕ → List ℕ → Type 0
+  Whole code text = (run.status ≡ code) × Wrote run text
 
--- so was one that the sink took
-taken : (unwritten : Type 0) (text : List ℕ) (code room status : ℕ) (before after : Option (List ℕ)) → (status ≡ 6 → unwritten) → IsTaken unwritten room text → Delivers text code room before after status → (status ≡ code) × Adds before text after
-taken unwritten text code room status before after six takes (inl all) = all
-taken unwritten text code room status before after six (inl written) (inr cut) = absurd (written (six cut.0))
-taken unwritten text code room status before after six (inr fits) (inr cut) = absurd (omega (arith, fits, cut.1))
+  -- the text goes into the run's sink
+  abbrev Delivered : ℕ → List ℕ → Type 0
+  Delivered code text = Delivers text code run.room run.written.before run.written.after run.status
 
-module _ (words : List Text) (content : Contents) (unfetched unwritten : Type 0) (room status : ℕ) (before after : Option (List ℕ)) (replies : Replies words content unfetched room status before after) (six : status ≡ 6 → unwritten) where
-  -- without a failed fetch the reply is what the decision says
-  settled : (c : Admit) (told : Documents) → Tells words content c told → ¬ unfetched → (reply : Reply) → IsReply words content unfetched reply → ComesTo c told reply
-  settled c told tells fetched usage none = absurd (none c tells.command)
-  settled c told tells fetched (unread document) asked = absurd (fetched asked.1)
-  settled c told tells fetched (admitted a) is = comes words content c told tells (admitted a) is
-  settled c told tells fetched (failed why) is = comes words content c told tells (failed why) is
+  module _ (replies : Replies run) (six : run.status ≡ 6 → WriteFailed run) where
+    -- a text that the sink took was written whole, with its status
+    taken : (text : List ℕ) (code : ℕ) → IsTaken run text → Delivered code text → Whole code text
+    taken text code takes (inl all) = all
+    taken text code (inl written) (inr cut) = absurd (written (six cut.0))
+    taken text code (inr fits) (inr cut) = absurd (omega (arith, fits, cut.1))
 
-  admits : (c : Admit) (told : Documents) → Tells words content c told → ¬ unfetched → (a : Admission) → IsAdmissible c told a → IsTaken unwritten room (admitted_text a) → Says 0 (admitted_text a) status before after
-  admits c told tells fetched a h takes = elim replies [
-    | inl wants ↦ inr (wants.five, wants.nothing)
-    | inr said ↦ inl (one said.0 (settled c told tells fetched said.0 said.1) said.2)
-  ]
-    where
-      one : (reply : Reply) → ComesTo c told reply → Delivers (reply_text reply) (reply_status reply) room before after status → (status ≡ 0) × Adds before (admitted_text a) after
-      one usage none delivered = absurd none
-      one (unread document) none delivered = absurd none
-      one (admitted b) gives delivered =
-          let same : a ≡ b = (decision_exact c told).one b a gives (from_words c told a h) in
-          taken unwritten (admitted_text a) 0 room status before after six takes (subst (λ (x : Admission). Delivers (admitted_text x) 0 room before after status) (sym same) delivered)
-      one (failed why) due delivered = absurd ((decision_exact c told).apart why a due (from_words c told a h))
+    -- without a failed fetch the reply is what the decision says
+    settled : (c : Admit) (told : Documents) → Tells run c told → ¬ (FetchFailed run) → (reply : Reply) → IsReply run reply → ComesTo c told reply
+    settled c told tells fetched usage is = absurd (is.none c tells.command)
+    settled c told tells fetched (unread document) is = absurd (fetched is.failed)
+    settled c told tells fetched (admitted a) is = comes run c told tells (admitted a) is
+    settled c told tells fetched (failed why) is = comes run c told tells (failed why) is
 
-  refuses : (c : Admit) (told : Documents) → Tells words content c told → ¬ unfetched → (why : Why) → (decision c told).refuses why → IsTaken unwritten room (why_text why) → Says (why_status why) (why_text why) status before after
-  refuses c told tells fetched why h takes = elim replies [
-    | inl wants ↦ inr (wants.five, wants.nothing)
-    | inr said ↦ inl (one said.0 (settled c told tells fetched said.0 said.1) said.2)
-  ]
-    where
-      one : (reply : Reply) → ComesTo c told reply → Delivers (reply_text reply) (reply_status reply) room before after status → (status ≡ why_status why) × Adds before (why_text why) after
-      one usage none delivered = absurd none
-      one (unread document) none delivered = absurd none
-      one (admitted b) gives delivered = absurd ((decision_exact c told).apart why b h ((decision_exact c told).holds b gives))
-      one (failed other) due delivered =
-          let same : other ≡ why = (decision_exact c told).only why other h due in
-          taken unwritten (why_text why) (why_status why) room status before after six takes (subst (λ (w : Why). Delivers (why_text w) (why_status w) room before after status) same delivered)
+    admits : (c : Admit) (told : Documents) → Tells run c told → ¬ (FetchFailed run) → (a : Admission) → IsAdmissible c told a → IsTaken run (admitted_text a) → Says run 0 (admitted_text a)
+    admits c told tells fetched a h takes = elim replies [
+      | inl wants ↦ inr (wants.five, wants.nothing)
+      | inr said ↦ inl (one said.0 (settled c told tells fetched said.0 said.1) said.2)
+    ]
+      where
+        one : (reply : Reply) → ComesTo c told reply → Delivered (reply_status reply) (reply_text reply) → Whole 0 (admitted_text a)
+        one usage none delivered = absurd none
+        one (unread document) none delivered = absurd none
+        one (admitted b) gives delivered =
+            let same : a ≡ b = (decision_exact c told).one b a gives (from_words c told a h) in
+            taken (admitted_text a) 0 takes (subst (λ (x : Admission). Delivered 0 (admitted_text x)) (sym same) delivered)
+        one (failed why) due delivered = absurd ((decision_exact c told).apart why a due (from_words c told a h))
 
-  only_admissible : (c : Admit) (told : Documents) → Tells words content c told → status ≡ 0 → (a : Admission) × IsAdmissible c told a × Adds before (admitted_text a) after
-  only_admissible c told tells zero = elim replies [
-    | inl wants ↦ absurd (omega (arith, wants.five, zero))
-    | inr said ↦ one said.0 said.1 (not_six (reply_text said.0) (reply_status said.0) room status before after said.2 (λ e. omega (arith, e, zero)))
-  ]
-    where
-      one : (reply : Reply) → IsReply words content unfetched reply → (status ≡ reply_status reply) × Adds before (reply_text reply) after → (a : Admission) × IsAdmissible c told a × Adds before (admitted_text a) after
-      one usage is s = absurd (omega (arith, s.0, zero))
-      one (unread document) is s = absurd (omega (arith, s.0, zero))
-      one (admitted a) is s = (a, to_words c told a ((decision_exact c told).holds a (comes words content c told tells (admitted a) is)), s.1)
-      one (failed (refused cause)) is s = absurd (omega (arith, s.0, zero))
-      one (failed (bad document flaw)) is s = absurd (omega (arith, s.0, zero))
+    refuses : (c : Admit) (told : Documents) → Tells run c told → ¬ (FetchFailed run) → (why : Why) → (decision c told).refuses why → IsTaken run (why_text why) → Says run (why_status why) (why_text why)
+    refuses c told tells fetched why h takes = elim replies [
+      | inl wants ↦ inr (wants.five, wants.nothing)
+      | inr said ↦ inl (one said.0 (settled c told tells fetched said.0 said.1) said.2)
+    ]
+      where
+        one : (reply : Reply) → ComesTo c told reply → Delivered (reply_status reply) (reply_text reply) → Whole (why_status why) (why_text why)
+        one usage none delivered = absurd none
+        one (unread document) none delivered = absurd none
+        one (admitted b) gives delivered = absurd ((decision_exact c told).apart why b h ((decision_exact c told).holds b gives))
+        one (failed other) due delivered =
+            let same : other ≡ why = (decision_exact c told).only why other h due in
+            taken (why_text why) (why_status why) takes (subst (λ (w : Why). Delivered (why_status w) (why_text w)) same delivered)
 
-  only_first : (c : Admit) (told : Documents) → Tells words content c told → (status ≡ 1) ⊎ (status ≡ 4) → (why : Why) × (decision c told).refuses why × (status ≡ why_status why) × Adds before (why_text why) after
-  only_first c told tells code = elim replies [
-    | inl wants ↦ absurd (omega (arith, wants.five, code))
-    | inr said ↦ one said.0 said.1 (not_six (reply_text said.0) (reply_status said.0) room status before after said.2 (λ e. omega (arith, e, code)))
-  ]
-    where
-      one : (reply : Reply) → IsReply words content unfetched reply → (status ≡ reply_status reply) × Adds before (reply_text reply) after → (why : Why) × (decision c told).refuses why × (status ≡ why_status why) × Adds before (why_text why) after
-      one usage is s = absurd (omega (arith, s.0, code))
-      one (unread document) is s = absurd (omega (arith, s.0, code))
-      one (admitted a) is s = absurd (omega (arith, s.0, code))
-      one (failed why) is s = (why, comes words content c told tells (failed why) is, s.0, s.1)
+    -- where the status is neither 5 nor 6 one reply was written whole, with its status
+    replied : ¬ (run.status ≡ 5) → ¬ (run.status ≡ 6) → (reply : Reply) × IsReply run reply × Whole (reply_status reply) (reply_text reply)
+    replied five never = elim replies [
+      | inl wants ↦ absurd (five wants.five)
+      | inr said ↦ (said.0, said.1, not_six (reply_text said.0) (reply_status said.0) run.room run.status run.written.before run.written.after said.2 never)
+    ]
 
-  pub headline : Headline words content unfetched unwritten room status before after
-  headline = record { admits = admits; refuses = refuses; only_admissible = only_admissible; only_first = only_first }
+    only_admissible : (c : Admit) (told : Documents) → Tells run c told → run.status ≡ 0 → (a : Admission) × IsAdmissible c told a × Wrote run (admitted_text a)
+    only_admissible c told tells code = let r = replied (λ e. omega (arith, e, code)) (λ e. omega (arith, e, code)) in one r.0 r.1 r.2
+      where
+        one : (reply : Reply) → IsReply run reply → Whole (reply_status reply) (reply_text reply) → (a : Admission) × IsAdmissible c told a × Wrote run (admitted_text a)
+        one usage is s = absurd (omega (arith, s.0, code))
+        one (unread document) is s = absurd (omega (arith, s.0, code))
+        one (admitted a) is s = (a, to_words c told a ((decision_exact c told).holds a (comes run c told tells (admitted a) is)), s.1)
+        one (failed (refused cause)) is s = absurd (omega (arith, s.0, code))
+        one (failed (bad document flaw)) is s = absurd (omega (arith, s.0, code))
 
-  -- ---- the statuses 0 and 2
+    only_first : (c : Admit) (told : Documents) → Tells run c told → (run.status ≡ 1) ⊎ (run.status ≡ 4) → (why : Why) × (decision c told).refuses why × (run.status ≡ why_status why) × Wrote run (why_text why)
+    only_first c told tells code = let r = replied (λ e. omega (arith, e, code)) (λ e. omega (arith, e, code)) in one r.0 r.1 r.2
+      where
+        one : (reply : Reply) → IsReply run reply → Whole (reply_status reply) (reply_text reply) → (why : Why) × (decision c told).refuses why × (run.status ≡ why_status why) × Wrote run (why_text why)
+        one usage is s = absurd (omega (arith, s.0, code))
+        one (unread document) is s = absurd (omega (arith, s.0, code))
+        one (admitted a) is s = absurd (omega (arith, s.0, code))
+        one (failed why) is s = (why, comes run c told tells (failed why) is, s.0, s.1)
 
-  -- words that are no command
-  pub no_command : ((c : Admit) → ¬ (IsCommand words c)) → (status ≡ 2) ⊎ (status ≡ 6)
-  no_command never = elim replies [
-    | inl wants ↦ absurd (never wants.command wants.is_command)
-    | inr said ↦ one said.0 said.1 said.2
-  ]
-    where
-      one : (reply : Reply) → IsReply words content unfetched reply → Delivers (reply_text reply) (reply_status reply) room before after status → (status ≡ 2) ⊎ (status ≡ 6)
-      one usage is (inl all) = inl all.0
-      one usage is (inr cut) = inr cut.0
-      one (unread document) asked delivered = absurd (never asked.0.0 asked.0.1)
-      one (admitted a) is delivered = absurd (never is.command is.is_command)
-      one (failed why) is delivered = absurd (never is.command is.is_command)
+    -- ---- what was asked for
 
-  pub two : status ≡ 2 → (c : Admit) → ¬ (IsCommand words c)
-  two code = elim replies [
-    | inl wants ↦ absurd (omega (arith, wants.five, code))
-    | inr said ↦ one said.0 said.1 (not_six (reply_text said.0) (reply_status said.0) room status before after said.2 (λ e. omega (arith, e, code)))
-  ]
-    where
-      one : (reply : Reply) → IsReply words content unfetched reply → (status ≡ reply_status reply) × Adds before (reply_text reply) after → (c : Admit) → ¬ (IsCommand words c)
-      one usage none s = none
-      one (unread document) is s = absurd (omega (arith, s.0, code))
-      one (admitted a) is s = absurd (omega (arith, s.0, code))
-      one (failed (refused cause)) is s = absurd (omega (arith, s.0, code))
-      one (failed (bad document flaw)) is s = absurd (omega (arith, s.0, code))
+    front : (c : Admit) → IsCommand run.words c → (n : ℕ) × Asked run (take n (paths_of c))
+    front c command = elim replies [
+      | inl wants ↦ subst (λ (b : Admit). (n : ℕ) × Asked run (take n (paths_of b))) (one_command run.words c wants.command command wants.is_command) wants.asked
+      | inr said ↦ one said.0 said.1
+    ]
+      where
+        same : (d : Admit) (n : ℕ) → IsCommand run.words d → Asked run (take n (paths_of d)) → (m : ℕ) × Asked run (take m (paths_of c))
+        same d n other asked = (n, subst (λ (b : Admit). Asked run (take n (paths_of b))) (one_command run.words c d command other) asked)
 
-  pub zero : status ≡ 0 → (a : Admission) × Adds before (admitted_text a) after
-  zero code = elim replies [
-    | inl wants ↦ absurd (omega (arith, wants.five, code))
-    | inr said ↦ one said.0 (not_six (reply_text said.0) (reply_status said.0) room status before after said.2 (λ e. omega (arith, e, code)))
-  ]
-    where
-      one : (reply : Reply) → (status ≡ reply_status reply) × Adds before (reply_text reply) after → (a : Admission) × Adds before (admitted_text a) after
-      one usage s = absurd (omega (arith, s.0, code))
-      one (unread document) s = absurd (omega (arith, s.0, code))
-      one (admitted a) s = (a, s.1)
-      one (failed (refused cause)) s = absurd (omega (arith, s.0, code))
-      one (failed (bad document flaw)) s = absurd (omega (arith, s.0, code))
+        to : (d : Document) (b : Admit) → Asked run (paths_to d b) → (n : ℕ) × Asked run (take n (paths_of b))
+        to Keys b asked = (1, asked)
+        to Records b asked = (2, asked)
+
+        one : (reply : Reply) → IsReply run reply → (n : ℕ) × Asked run (take n (paths_of c))
+        one usage is = absurd (is.none c command)
+        one (unread document) is = let t = to document is.command is.asked in same is.command t.0 is.is_command t.1
+        one (admitted a) is = same is.command 2 is.is_command is.asked
+        one (failed why) is = same is.command 2 is.is_command is.asked
+
+    -- all paths, where the command comes to its reply
+    all_asked : (c : Admit) → IsCommand run.words c → (reply : Reply) → IsAnswer run reply → Asked run (paths_of c)
+    all_asked c command reply is = subst (λ (b : Admit). Asked run (paths_of b)) (one_command run.words c is.command command is.is_command) is.asked
+
+    answered : (c : Admit) → IsCommand run.words c → (run.status ≡ 0) ⊎ (run.status ≡ 1) ⊎ (run.status ≡ 4) → Asked run (paths_of c)
+    answered c command code = let r = replied (λ e. omega (arith, e, code)) (λ e. omega (arith, e, code)) in one r.0 r.1 r.2
+      where
+        one : (reply : Reply) → IsReply run reply → Whole (reply_status reply) (reply_text reply) → Asked run (paths_of c)
+        one usage is s = absurd (omega (arith, s.0, code))
+        one (unread document) is s = absurd (omega (arith, s.0, code))
+        one (admitted a) is s = all_asked c command (admitted a) is
+        one (failed why) is s = all_asked c command (failed why) is
+
+    unfailed : (c : Admit) → IsCommand run.words c → ¬ (FetchFailed run) → ¬ (run.status ≡ 5) → Asked run (paths_of c)
+    unfailed c command fetched five = elim replies [
+      | inl wants ↦ absurd (five wants.five)
+      | inr said ↦ one said.0 said.1
+    ]
+      where
+        one : (reply : Reply) → IsReply run reply → Asked run (paths_of c)
+        one usage is = absurd (is.none c command)
+        one (unread document) is = absurd (fetched is.failed)
+        one (admitted a) is = all_asked c command (admitted a) is
+        one (failed why) is = all_asked c command (failed why) is
+
+    named : (c : Admit) → IsCommand run.words c → run.status ≡ 3 → (d : Document) × Asked run (paths_to d c) × Wrote run (reply_text (unread d))
+    named c command code = let r = replied (λ e. omega (arith, e, code)) (λ e. omega (arith, e, code)) in one r.0 r.1 r.2
+      where
+        one : (reply : Reply) → IsReply run reply → Whole (reply_status reply) (reply_text reply) → (d : Document) × Asked run (paths_to d c) × Wrote run (reply_text (unread d))
+        one usage is s = absurd (omega (arith, s.0, code))
+        one (unread document) is s = (document, subst (λ (b : Admit). Asked run (paths_to document b)) (one_command run.words c is.command command is.is_command) is.asked, s.1)
+        one (admitted a) is s = absurd (omega (arith, s.0, code))
+        one (failed (refused cause)) is s = absurd (omega (arith, s.0, code))
+        one (failed (bad document flaw)) is s = absurd (omega (arith, s.0, code))
+
+    nothing : ((c : Admit) → ¬ (IsCommand run.words c)) → run.asked.after ≡ run.asked.before
+    nothing never = elim replies [
+      | inl wants ↦ absurd (never wants.command wants.is_command)
+      | inr said ↦ one said.0 said.1
+    ]
+      where
+        one : (reply : Reply) → IsReply run reply → run.asked.after ≡ run.asked.before
+        one usage is = is.asked
+        one (unread document) is = absurd (never is.command is.is_command)
+        one (admitted a) is = absurd (never is.command is.is_command)
+        one (failed why) is = absurd (never is.command is.is_command)
+
+    pub outcome : Outcome run
+    outcome = record {
+      replies = replies;
+      asks = record { front = front; answered = answered; unfailed = unfailed; unread = named; nothing = nothing };
+      headline = record { admits = admits; refuses = refuses; only_admissible = only_admissible; only_first = only_first };
+    }
+
+    -- ---- the statuses 0 and 2
+
+    -- words that are no command
+    pub no_command : ((c : Admit) → ¬ (IsCommand run.words c)) → (run.status ≡ 2) ⊎ (run.status ≡ 6)
+    no_command never = elim replies [
+      | inl wants ↦ absurd (never wants.command wants.is_command)
+      | inr said ↦ one said.0 said.1 said.2
+    ]
+      where
+        one : (reply : Reply) → IsReply run reply → Delivered (reply_status reply) (reply_text reply) → (run.status ≡ 2) ⊎ (run.status ≡ 6)
+        one usage is (inl all) = inl all.0
+        one usage is (inr cut) = inr cut.0
+        one (unread document) is delivered = absurd (never is.command is.is_command)
+        one (admitted a) is delivered = absurd (never is.command is.is_command)
+        one (failed why) is delivered = absurd (never is.command is.is_command)
+
+    pub two : run.status ≡ 2 → (c : Admit) → ¬ (IsCommand run.words c)
+    two code = let r = replied (λ e. omega (arith, e, code)) (λ e. omega (arith, e, code)) in one r.0 r.1 r.2
+      where
+        one : (reply : Reply) → IsReply run reply → Whole (reply_status reply) (reply_text reply) → (c : Admit) → ¬ (IsCommand run.words c)
+        one usage is s = is.none
+        one (unread document) is s = absurd (omega (arith, s.0, code))
+        one (admitted a) is s = absurd (omega (arith, s.0, code))
+        one (failed (refused cause)) is s = absurd (omega (arith, s.0, code))
+        one (failed (bad document flaw)) is s = absurd (omega (arith, s.0, code))
+
+    pub zero : run.status ≡ 0 → (a : Admission) × Wrote run (admitted_text a)
+    zero code = let r = replied (λ e. omega (arith, e, code)) (λ e. omega (arith, e, code)) in one r.0 r.2
+      where
+        one : (reply : Reply) → Whole (reply_status reply) (reply_text reply) → (a : Admission) × Wrote run (admitted_text a)
+        one usage s = absurd (omega (arith, s.0, code))
+        one (unread document) s = absurd (omega (arith, s.0, code))
+        one (admitted a) s = (a, s.1)
+        one (failed (refused cause)) s = absurd (omega (arith, s.0, code))
+        one (failed (bad document flaw)) s = absurd (omega (arith, s.0, code))
 
 -- a count that never falls, and has not risen
 pub unrisen : (old new : ℕ) → old ≤ new → ¬ (old < new) → new ≡ old

@@ -2,7 +2,6 @@
 use Rattle.std.specs.Prelude.{◌≤◌, ℕ, List, length, IsUtf8}
 use Rattle.picky_contract.specs.Refusals.{Table, the, need, named, done, ◌>>=◌}
 use Rattle.picky_key.specs.declared.recorded.Signature.{Signature}
-use Rattle.picky_key.specs.declared.recorded.RecordFault.TheVariants.{Unbuilt}
 use Rattle.picky_key.specs.Records.{FirstRecordsOf, Signs}
 use Rattle.picky_jwk.specs.Refusals.{unbuilt}
 use Rattle.picky_gate.specs.declared.ring.RingEntry.{RingEntry}
@@ -10,7 +9,7 @@ use Rattle.picky_gate.specs.declared.documents.Document.TheVariants.{Keys, Recor
 use Rattle.picky_gate.specs.declared.documents.Documents.{Documents}
 use Rattle.picky_gate.specs.Admissible.{Admission, Admissible}
 use Rattle.picky_gate.specs.Command.{Admit}
-use Rattle.picky_gate.specs.Faults.{Flaw, too_long, not_utf8, of_keys, of_records, Why, bad, refused}
+use Rattle.picky_gate.specs.Faults.{Flaw, too_long, not_utf8, of_keys, unbuilt_records, Why, bad, refused}
 use Rattle.picky_gate.specs.Moment.{date_at}
 use Rattle.picky_gate.specs.Refusals.{admits_table}
 use Rattle.picky_gate.specs.Ring.{FirstRingOf}
@@ -31,7 +30,7 @@ text_table doc = do
 unfoldable pub records_table : List ℕ → Table (List Signature) Flaw
 records_table doc = do
   text ← text_table doc
-  the (FirstRecordsOf text) (of_records Unbuilt)
+  the (FirstRecordsOf text) unbuilt_records
 
 -- a keys document, and its ring
 unfoldable pub keys_table : List ℕ → Table (TextMap RingEntry) Flaw

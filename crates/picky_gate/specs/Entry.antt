@@ -5,4 +5,4 @@ use Rattle.picky_gate.specs.declared.ring.RingEntry.TheVariants.{Verify}
 
 -- the key that signatures are checked under
 abbrev pub public : RingEntry → PublicKeyKind
-public (Verify key algorithm) = key
+public (Verify key) = key

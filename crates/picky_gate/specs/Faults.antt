@@ -1,6 +1,5 @@
 -- Why the program has no admitted text: a document that is no grammar's, or a refusal (own).
 use Rattle.std.specs.Prelude.{Option, Some, None, option_map}
-use Rattle.picky_key.specs.declared.recorded.RecordFault.{RecordFault}
 use Rattle.picky_key.specs.Records as records
 use Rattle.picky_jwk.specs.Refusals as jwk
 use Rattle.picky_gate.specs.declared.documents.Document.{Document}
@@ -15,13 +14,13 @@ pub data Flaw : Type 0 where
   too_long : Flaw
   not_utf8 : Flaw
   of_keys : jwk.Fault → Flaw
-  of_records : RecordFault → Flaw
+  unbuilt_records : Flaw
 
 abbrev pub flaw_of : DocumentFault → Option Flaw
 flaw_of of_document.TooLong = Some too_long
 flaw_of of_document.Utf8 = Some not_utf8
 flaw_of (of_document.Jwk error) = option_map of_keys (jwk.fault error)
-flaw_of (of_document.Records error) = option_map of_records (records.fault error)
+flaw_of (of_document.Records error) = option_map (λ _. unbuilt_records) (records.fault error)
 flaw_of of_document.OutOfMemory = None
 
 -- why there is no admitted text

@@ -1,42 +1,41 @@
 -- The sentence about the program (own): over documents that the cabinet tells, with no failure, the
 -- status is 0 with the two lines exactly where the text is admissible, and otherwise the code is that
 -- of the first condition that fails. Want of memory is free.
-use Rattle.std.specs.Prelude.{◌≡◌, ◌⊎◌, ◌≤◌, ℕ, List, length, Option, Some}
+use Rattle.std.specs.Prelude.{◌≡◌, ◌⊎◌, ◌≤◌, ℕ, List, length, Some}
 use Rattle.picky_gate.specs.declared.documents.Documents.{Documents}
 use Rattle.picky_gate.specs.Admissible.{Admission}
-use Rattle.picky_gate.specs.Command.{Text, Admit, IsCommand}
+use Rattle.picky_gate.specs.Command.{Admit, IsCommand}
 use Rattle.picky_gate.specs.Documents.{decision, IsAdmissible}
 use Rattle.picky_gate.specs.Faults.{Why}
 use Rattle.picky_gate.specs.Lines.{admitted_text, why_status, why_text}
-use Rattle.picky_gate.specs.Outside.{Adds}
-use Rattle.picky_gate.specs.Reply.{Contents}
+use Rattle.picky_gate.specs.Run.{Run, FetchFailed, WriteFailed, Wrote}
 
 -- the words are this command, and the cabinet tells its documents
-pub record Tells (words : List Text) (content : Contents) (c : Admit) (docs : Documents) : Type 0 where
-  pub command : IsCommand words c
-  pub keys : content c.keys ≡ Some docs.keys
-  pub records : content c.records ≡ Some docs.records
+pub record Tells (run : Run) (c : Admit) (docs : Documents) : Type 0 where
+  pub command : IsCommand run.words c
+  pub keys : run.content c.keys ≡ Some docs.keys
+  pub records : run.content c.records ≡ Some docs.records
 
 -- no write failed, or none can: the sink has room for the text
-abbrev pub IsTaken : Type 0 → ℕ → List ℕ → Type 0
-IsTaken unwritten room text = (¬ unwritten) ⊎ (length text ≤ room)
+abbrev pub IsTaken : Run → List ℕ → Type 0
+IsTaken run text = (¬ (WriteFailed run)) ⊎ (length text ≤ run.room)
 
 -- this status and the whole text, unless memory ran out and nothing was written
-abbrev pub Says : ℕ → List ℕ → ℕ → Option (List ℕ) → Option (List ℕ) → Type 0
-Says code text status before after =
-    ((status ≡ code) × Adds before text after)
-    ⊎ ((status ≡ 5) × (after ≡ before))
+abbrev pub Says : Run → ℕ → List ℕ → Type 0
+Says run code text =
+    ((run.status ≡ code) × Wrote run text)
+    ⊎ ((run.status ≡ 5) × (run.written.after ≡ run.written.before))
 
-pub record Headline (words : List Text) (content : Contents) (unfetched unwritten : Type 0) (room status : ℕ) (before after : Option (List ℕ)) : Type 0 where
+pub record Headline (run : Run) : Type 0 where
   -- an admissible text is admitted, and its lines are printed
-  pub admits : (c : Admit) (docs : Documents) → Tells words content c docs → ¬ unfetched
-      → (a : Admission) → IsAdmissible c docs a → IsTaken unwritten room (admitted_text a) → Says 0 (admitted_text a) status before after
+  pub admits : (c : Admit) (docs : Documents) → Tells run c docs → ¬ (FetchFailed run)
+      → (a : Admission) → IsAdmissible c docs a → IsTaken run (admitted_text a) → Says run 0 (admitted_text a)
   -- else the first condition that fails is said
-  pub refuses : (c : Admit) (docs : Documents) → Tells words content c docs → ¬ unfetched
-      → (why : Why) → (decision c docs).refuses why → IsTaken unwritten room (why_text why) → Says (why_status why) (why_text why) status before after
+  pub refuses : (c : Admit) (docs : Documents) → Tells run c docs → ¬ (FetchFailed run)
+      → (why : Why) → (decision c docs).refuses why → IsTaken run (why_text why) → Says run (why_status why) (why_text why)
   -- status 0 comes only where the text is admissible, with its lines
-  pub only_admissible : (c : Admit) (docs : Documents) → Tells words content c docs → status ≡ 0
-      → (a : Admission) × IsAdmissible c docs a × Adds before (admitted_text a) after
+  pub only_admissible : (c : Admit) (docs : Documents) → Tells run c docs → run.status ≡ 0
+      → (a : Admission) × IsAdmissible c docs a × Wrote run (admitted_text a)
   -- status 1 or 4 comes only with the first condition that fails
-  pub only_first : (c : Admit) (docs : Documents) → Tells words content c docs → (status ≡ 1) ⊎ (status ≡ 4)
-      → (why : Why) × (decision c docs).refuses why × (status ≡ why_status why) × Adds before (why_text why) after
+  pub only_first : (c : Admit) (docs : Documents) → Tells run c docs → (run.status ≡ 1) ⊎ (run.status ≡ 4)
+      → (why : Why) × (decision c docs).refuses why × (run.status ≡ why_status why) × Wrote run (why_text why)

@@ -14,5 +14,7 @@ pub mod Moment
 pub mod Faults
 pub mod Documents
 pub mod Lines
+pub mod Run
 pub mod Reply
 pub mod Headline
+pub mod Outcome

@@ -1,10 +1,8 @@
 -- What is printed, and the statuses of what isn't admitted (own).
-use Rattle.std.specs.Prelude.{ℕ, List, ◌++◌, codes, Option, Some, None}
+use Rattle.std.specs.Prelude.{ℕ, List, [], ◌++◌, codes, Some, None}
 use Rattle.serde_json.specs.Data.{Data}
 use Rattle.serde_json.specs.Written.{compact_text}
 use Rattle.picky_json.specs.Text.{json_text}
-use Rattle.picky_key.specs.declared.recorded.RecordFault.{RecordFault}
-use Rattle.picky_key.specs.declared.recorded.RecordFault.TheVariants as records
 use Rattle.picky_jwk.specs.declared.alg.JwsAlg.{JwsAlg}
 use Rattle.picky_jwk.specs.Names.{alg_name}
 use Rattle.picky_jwk.specs.Refusals as jwk
@@ -12,7 +10,7 @@ use Rattle.picky_jose.specs.Faults as jose
 use Rattle.picky_gate.specs.declared.documents.Document.{Document}
 use Rattle.picky_gate.specs.declared.documents.Document.TheVariants.{Keys, Records}
 use Rattle.picky_gate.specs.Admissible.{Admission, token}
-use Rattle.picky_gate.specs.Faults.{Flaw, too_long, not_utf8, of_keys, of_records, Why, bad, refused}
+use Rattle.picky_gate.specs.Faults.{Flaw, too_long, not_utf8, of_keys, unbuilt_records, Why, bad, refused}
 use Rattle.picky_gate.specs.Refusals.{Cause, no_key, of_token, unbuilt}
 
 -- the two lines of a token: its key's name and its claims as compact JSON
@@ -32,22 +30,21 @@ document_text Keys = codes "keys"
 document_text Records = codes "records"
 
 -- codes are the names of the errors' variants
-abbrev pub jws_text : Option jose.JwsFault → List ℕ
-jws_text (Some jose.json) = codes "Jws.Json"
-jws_text (Some (jose.signature fault)) = codes "Jws.Signature"
-jws_text (Some (jose.invalid_encoding input)) = codes "Jws.InvalidEncoding"
-jws_text (Some jose.not_base64) = codes "Jws.Base64Decoding"
-jws_text (Some jose.float) = codes "Jws.Float"
-jws_text None = codes "Jws.OutOfMemory"
+abbrev pub jws_text : jose.JwsFault → List ℕ
+jws_text jose.json = codes "Jws.Json"
+jws_text (jose.signature fault) = codes "Jws.Signature"
+jws_text (jose.invalid_encoding input) = codes "Jws.InvalidEncoding"
+jws_text jose.not_base64 = codes "Jws.Base64Decoding"
+jws_text jose.float = codes "Jws.Float"
 
-abbrev pub jwt_text : Option jose.JwtFault → List ℕ
-jwt_text (Some (jose.jws fault)) = jws_text fault
-jwt_text (Some jose.no_json) = codes "Jwt.Json"
-jwt_text (Some (jose.no_integer claim)) = codes "Jwt.InvalidRegisteredClaimType"
-jwt_text (Some (jose.not_yet_valid start date)) = codes "Jwt.NotYetValid"
-jwt_text (Some (jose.expired end date)) = codes "Jwt.Expired"
-jwt_text (Some jose.has_float) = codes "Jwt.Float"
-jwt_text None = codes "Jwt.OutOfMemory"
+abbrev pub jwt_text : jose.JwtFault → List ℕ
+jwt_text (jose.jws (Some fault)) = jws_text fault
+jwt_text (jose.jws None) = []
+jwt_text jose.no_json = codes "Jwt.Json"
+jwt_text (jose.no_integer claim) = codes "Jwt.InvalidRegisteredClaimType"
+jwt_text (jose.not_yet_valid start date) = codes "Jwt.NotYetValid"
+jwt_text (jose.expired end date) = codes "Jwt.Expired"
+jwt_text jose.has_float = codes "Jwt.Float"
 
 abbrev pub cause_text : Cause → List ℕ
 cause_text no_key = codes "NoKey"
@@ -59,15 +56,11 @@ keys_text jwk.not_base64 = codes "Jwk.Base64Decoding"
 keys_text jwk.bad_ed_key = codes "Jwk.InvalidEdPublicKey"
 keys_text jwk.unbuilt = codes "Jwk.Unbuilt"
 
-abbrev pub records_text : RecordFault → List ℕ
-records_text records.OutOfMemory = codes "OutOfMemory"
-records_text records.Unbuilt = codes "Unbuilt"
-
 abbrev pub flaw_text : Flaw → List ℕ
 flaw_text too_long = codes "TooLong"
 flaw_text not_utf8 = codes "Utf8"
 flaw_text (of_keys fault) = keys_text fault
-flaw_text (of_records fault) = records_text fault
+flaw_text unbuilt_records = codes "Unbuilt"
 
 abbrev pub why_text : Why → List ℕ
 why_text (refused cause) = codes "refused " ++ (cause_text cause ++ codes "\n")

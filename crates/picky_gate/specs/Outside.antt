@@ -1,8 +1,8 @@
 -- What a fetch and a write do, and when they may fail (own).
 --
--- An object of the outside may keep to itself what it holds: then its meaning is none, and a clause
--- says no more of the bytes than their number.
-use Rattle.std.specs.Prelude.{◌≡◌, ◌≤◌, ℕ, ◌+◌, List, ◌++◌, length, take, Option, Some, None, Result, OnOk, OnErr, IsErrOf}
+-- An object of the outside may keep to itself what it holds, what it took or what it was asked: then
+-- that meaning is none, and a clause says no more of bytes than their number.
+use Rattle.std.specs.Prelude.{◌≡◌, ◌⊎◌, ◌≤◌, ◌<◌, ℕ, ◌+◌, List, [], ◌∷◌, ◌++◌, length, take, Option, Some, None, MatchOption, Result, Ok, Err, OnOk, OnErr, IsErrOf}
 use Rattle.picky_contract.specs.Causes.{Rose}
 use Rattle.picky_gate.specs.declared.cabinet.FetchFault.{FetchFault}
 use Rattle.picky_gate.specs.declared.cabinet.FetchFault.TheVariants as fetch
@@ -25,7 +25,19 @@ pub record WriteCause {T E : Type 0} (before now : ℕ) (result : Result T E) : 
   pub written : OnOk result (now ≡ before)
   pub failed : OnErr result (Rose before now)
 
--- where the sink tells its bytes, they are now those before and these, and it tells them still
-abbrev pub Adds : Option (List ℕ) → List ℕ → Option (List ℕ) → Type 0
-Adds None bytes new = Unit {0}
-Adds (Some old) bytes new = new ≡ Some (old ++ bytes)
+-- where the object tells its list, that is now the one before and these items, and it is told still
+abbrev pub Adds : {A : Type 0} → Option (List A) → List A → Option (List A) → Type 0
+Adds None items new = Unit {0}
+Adds (Some old) items new = new ≡ Some (old ++ items)
+
+-- where the cabinet tells what it was asked, the path is now the last; only where memory is wanting it may be missing
+pub record FetchAsks {T : Type 0} (before : Option (List (List ℕ))) (path : List ℕ) (now : Option (List (List ℕ))) (result : Result T FetchFault) : Type 0 where
+  pub fetched : OnOk result (Adds before (path ∷ []) now)
+  pub failed : IsErrOf result fetch.Failed → Adds before (path ∷ []) now
+  pub memory : IsErrOf result fetch.OutOfMemory → (now ≡ before) ⊎ Adds before (path ∷ []) now
+
+-- How many bytes of a piece were taken, where the system said this: what it says, unless that is nothing of a
+-- piece that isn't empty, or an error; then it is none.
+abbrev pub IsTakenOf : {E : Type 0} → List ℕ → Result ℕ E → Option ℕ → Type 0
+IsTakenOf piece (Ok said) taken = MatchOption taken ((said ≡ 0) × (0 < length piece)) (λ n. (n ≡ said) × ((0 < said) ⊎ (length piece ≡ 0)))
+IsTakenOf piece (Err e) taken = taken ≡ None

@@ -1,5 +1,5 @@
 -- Why a text isn't admitted, and the conditions of a text in their order (own).
-use Rattle.std.specs.Prelude.{ℕ, List, Option, Some, None, string_bytes}
+use Rattle.std.specs.Prelude.{ℕ, List, Option, Some, None, option_map, string_bytes}
 use Rattle.serde_json.specs.View.{view}
 use Rattle.picky_contract.specs.Refusals.{Table, the, need, done, ◌>>=◌}
 use Rattle.picky_jose.specs.declared.date.JwtDate.{JwtDate}
@@ -21,28 +21,27 @@ use Rattle.picky_gate.specs.Claims.{FirstClaimsOf}
 abbrev pub admission_of : Admitted → Admission
 admission_of (Token name header claims) = token (string_bytes name.0) (header_view header) (view claims)
 
--- why a text isn't admitted, want of memory aside; `of_token` has no fault only for an inner want of
--- memory, which is no refusal of any table
+-- why a text isn't admitted, want of memory aside
 pub data Cause : Type 0 where
   no_key : Cause
-  of_token : Option JwtFault → Cause
+  of_token : JwtFault → Cause
   unbuilt : Cause
 
 abbrev pub cause_of : Refusal → Option Cause
 cause_of refusal.NoKey = Some no_key
-cause_of (refusal.Token error) = Some (of_token (jwt_fault error))
+cause_of (refusal.Token error) = option_map of_token (jwt_fault error)
 cause_of refusal.OutOfMemory = None
 cause_of refusal.Unbuilt = Some unbuilt
 
 -- the relation doesn't hold of a token
 abbrev pub bad_signature : Cause
-bad_signature = of_token (Some (jws (Some (signature bad))))
+bad_signature = of_token (jws (Some (signature bad)))
 
 -- the conditions of a token whose signature holds, in their order, and what is admitted
 unfoldable pub claimed_table : JwtDate → List ℕ → Header → List ℕ → Table Admission Cause
 claimed_table date name header payload = do
   claims ← the (FirstClaimsOf payload) unbuilt
-  in_time ← need (IsBeforeEnd date claims.exp) (of_token (Some (expired claims.exp date)))
+  in_time ← need (IsBeforeEnd date claims.exp) (of_token (expired claims.exp date))
   done (token name header claims.tree)
 
 -- the same of a token whose key is known

@@ -1,5 +1,5 @@
 -- What the program says: its replies, their statuses and texts, and what is written of them (own).
-use Rattle.std.specs.Prelude.{◌≡◌, ◌⊎◌, ◌<◌, ◌≤◌, ℕ, List, ◌++◌, length, take, codes, Option, Result, OnOk, IsErrOf}
+use Rattle.std.specs.Prelude.{◌≡◌, ◌⊎◌, ◌<◌, ◌≤◌, ℕ, List, [], ◌∷◌, ◌++◌, length, take, codes, Option, Result, OnOk, IsErrOf}
 use Rattle.picky_contract.specs.Causes.{Rose}
 use Rattle.picky_gate.specs.declared.documents.Document.{Document}
 use Rattle.picky_gate.specs.declared.documents.Documents.{Documents}
@@ -11,10 +11,7 @@ use Rattle.picky_gate.specs.Documents.{limit, decision}
 use Rattle.picky_gate.specs.Faults.{Why}
 use Rattle.picky_gate.specs.Lines.{admitted_text, document_text, why_status, why_text}
 use Rattle.picky_gate.specs.Outside.{IsFetched, Adds}
-
--- what a cabinet tells of a path
-abbrev pub Contents : Type 0
-Contents = Text → Option (List ℕ)
+use Rattle.picky_gate.specs.Run.{Contents, Run, FetchFailed, Asked, paths_of, paths_to}
 
 -- the documents that the fetches of a command bring
 pub record AreFetched (content : Contents) (c : Admit) (docs : Documents) : Type 0 where
@@ -27,6 +24,20 @@ pub record UnfetchedCause {T : Type 0} (before now : ℕ) (result : Result T Unf
   pub fetched : OnOk result (now ≡ before)
   pub memory : IsErrOf result unfetched.OutOfMemory → now ≡ before
   pub failed : (d : Document) → IsErrOf result (unfetched.Failed d) → Rose before now
+
+-- The fetch of one document asked for its path, which is missing only where memory is wanting; and it says that
+-- document where it failed.
+pub record OneAsked {T : Type 0} (before : Option (List Text)) (path : Text) (document : Document) (now : Option (List Text)) (result : Result T Unfetched) : Type 0 where
+  pub fetched : OnOk result (Adds before (path ∷ []) now)
+  pub failed : (d : Document) → IsErrOf result (unfetched.Failed d) → (d ≡ document) × Adds before (path ∷ []) now
+  pub memory : IsErrOf result unfetched.OutOfMemory → (now ≡ before) ⊎ Adds before (path ∷ []) now
+
+-- The fetches of a command's documents asked for all their paths, for those up to the document that failed, or,
+-- where memory is wanting, for a front of them.
+pub record AllAsked {T : Type 0} (before : Option (List Text)) (c : Admit) (now : Option (List Text)) (result : Result T Unfetched) : Type 0 where
+  pub fetched : OnOk result (Adds before (paths_of c) now)
+  pub failed : (d : Document) → IsErrOf result (unfetched.Failed d) → Adds before (paths_to d c) now
+  pub memory : IsErrOf result unfetched.OutOfMemory → (n : ℕ) × Adds before (take n (paths_of c)) now
 
 -- what the program says: that the words are no command, that a document can't be read, what was
 -- admitted, or why nothing was
@@ -61,20 +72,33 @@ pub record Said (c : Admit) (docs : Documents) (code : ℕ) (bytes : List ℕ) :
   pub status : code ≡ reply_status reply
   pub text : bytes ≡ reply_text reply
 
--- the command of these words, over the documents that were fetched, comes to this reply
-pub record IsAnswer (words : List Text) (content : Contents) (reply : Reply) : Type 0 where
+-- the command of the words, over the documents that were fetched, comes to this reply
+pub record IsAnswer (run : Run) (reply : Reply) : Type 0 where
   pub command : Admit
   pub docs : Documents
-  pub is_command : IsCommand words command
-  pub fetched : AreFetched content command docs
+  pub is_command : IsCommand run.words command
+  pub asked : Asked run (paths_of command)
+  pub fetched : AreFetched run.content command docs
   pub comes_to : ComesTo command docs reply
 
--- when the program says it; a document is unread only where a fetch failed
-abbrev pub IsReply : List Text → Contents → Type 0 → Reply → Type 0
-IsReply words content unfetched usage = (c : Admit) → ¬ (IsCommand words c)
-IsReply words content unfetched (unread document) = ((c : Admit) × IsCommand words c) × unfetched
-IsReply words content unfetched (admitted a) = IsAnswer words content (admitted a)
-IsReply words content unfetched (failed why) = IsAnswer words content (failed why)
+-- the document of the command can't be read: a fetch failed, and its path is the last that was asked for
+pub record IsUnread (run : Run) (document : Document) : Type 0 where
+  pub command : Admit
+  pub is_command : IsCommand run.words command
+  pub asked : Asked run (paths_to document command)
+  pub failed : FetchFailed run
+
+-- the words are no command, and nothing was asked for
+pub record IsUsage (run : Run) : Type 0 where
+  pub none : (c : Admit) → ¬ (IsCommand run.words c)
+  pub asked : run.asked.after ≡ run.asked.before
+
+-- when the program says it
+abbrev pub IsReply : Run → Reply → Type 0
+IsReply run usage = IsUsage run
+IsReply run (unread document) = IsUnread run document
+IsReply run (admitted a) = IsAnswer run (admitted a)
+IsReply run (failed why) = IsAnswer run (failed why)
 
 -- What is written of a text into a sink with this room: all of it, with the text's status; or a front
 -- of it, with status 6, where a write failed, which the room didn't suffice for.
@@ -83,15 +107,16 @@ Delivers text code room before after status =
     ((status ≡ code) × Adds before text after)
     ⊎ ((status ≡ 6) × (room < length text) × ((n : ℕ) × (n < length text) × Adds before (take n text) after))
 
--- the program wants memory for a command, and has written nothing
-pub record WantsMemory (words : List Text) (status : ℕ) (before after : Option (List ℕ)) : Type 0 where
-  pub five : status ≡ 5
-  pub nothing : after ≡ before
+-- the program wants memory for a command; it has asked for a front of its paths, and has written nothing
+pub record WantsMemory (run : Run) : Type 0 where
+  pub five : run.status ≡ 5
+  pub nothing : run.written.after ≡ run.written.before
   pub command : Admit
-  pub is_command : IsCommand words command
+  pub is_command : IsCommand run.words command
+  pub asked : (n : ℕ) × Asked run (take n (paths_of command))
 
 -- the program says one reply, or wants memory
-abbrev pub Replies : List Text → Contents → Type 0 → ℕ → ℕ → Option (List ℕ) → Option (List ℕ) → Type 0
-Replies words content unfetched room status before after =
-    WantsMemory words status before after
-    ⊎ ((reply : Reply) × IsReply words content unfetched reply × Delivers (reply_text reply) (reply_status reply) room before after status)
+abbrev pub Replies : Run → Type 0
+Replies run =
+    WantsMemory run
+    ⊎ ((reply : Reply) × IsReply run reply × Delivers (reply_text reply) (reply_status reply) run.room run.written.before run.written.after run.status)

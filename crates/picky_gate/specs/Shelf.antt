@@ -1,23 +1,28 @@
 -- What a cabinet and a sink in memory hold, and what a fetch and a write make of it (own).
-use Rattle.std.specs.Prelude.{ℕ, ◌+◌, ◌-◌, ◌^◌, min, List, ◌++◌, length, take, refl}
+use Rattle.std.specs.Prelude.{ℕ, ◌+◌, ◌-◌, ◌^◌, min, List, [], ◌∷◌, ◌++◌, length, take, refl}
 use Rattle.std.specs.Coded.{Coded, code_by, coded×, coded_list, coded_ℕ}
 use Rattle.std.specs.FinMap as finite
 use Rattle.picky_gate.specs.TextMap.{TextMap}
 
--- the bytes under each path, and the faults so far
+-- the bytes under each path, the paths that were asked for so far, and the faults
 pub record Shelf : Type 0 where
   pub files : TextMap (List ℕ)
+  pub asked : List (List ℕ)
   pub faults : ℕ
 
 -- the count of faults after one more; it stays at its last value
 abbrev pub counted : ℕ → ℕ
 counted faults = min (faults + 1) (2 ^ 64 - 1)
 
--- a shelf is stored as the pair of its fields
+-- after the path was asked for
+abbrev pub noted : Shelf → List ℕ → Shelf
+noted s path = record s { asked = s.asked ++ path ∷ [] }
+
+-- a shelf is stored as pairs of its fields
 abbrev pub shelf_code : Coded Shelf
 shelf_code =
-    code_by (TextMap (List ℕ) × ℕ) (coded× (finite.code (coded_list coded_ℕ) (coded_list coded_ℕ)) coded_ℕ)
-    (λ s. (s.files, s.faults)) (λ p. record { files = p.0; faults = p.1 }) (λ _. refl)
+    code_by (TextMap (List ℕ) × (List (List ℕ) × ℕ)) (coded× (finite.code (coded_list coded_ℕ) (coded_list coded_ℕ)) (coded× (coded_list (coded_list coded_ℕ)) coded_ℕ))
+    (λ s. (s.files, (s.asked, s.faults))) (λ p. record { files = p.0; asked = p.1.0; faults = p.1.1 }) (λ _. refl)
 
 -- the bytes written, the room that is left, and the faults so far
 pub record Filled : Type 0 where

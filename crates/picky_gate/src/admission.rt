@@ -61,7 +61,7 @@ impl From<JwtError> for Refusal {
     ghost use Rattle.picky_gate.specs.declared.admission.Refusal.TheVariants.{OutOfMemory};
     ghost use Rattle.picky_gate.specs.Refusals.{cause_of, of_token};
 
-    ghost from_gives = { λ error refusal. MatchOption (jwt_fault error) (refusal ≡ OutOfMemory) (λ f. cause_of refusal ≡ Some (of_token (Some f))) };
+    ghost from_gives = { λ error refusal. MatchOption (jwt_fault error) (refusal ≡ OutOfMemory) (λ f. cause_of refusal ≡ Some (of_token f)) };
 
     fn from(error: JwtError) -> Refusal {
         match error {
@@ -77,7 +77,7 @@ impl From<JwsError> for Refusal {
     ghost use Rattle.picky_gate.specs.declared.admission.Refusal.TheVariants.{OutOfMemory};
     ghost use Rattle.picky_gate.specs.Refusals.{cause_of, of_token};
 
-    ghost from_gives = { λ error refusal. MatchOption (jws_fault error) (refusal ≡ OutOfMemory) (λ f. cause_of refusal ≡ Some (of_token (Some (jws (Some f))))) };
+    ghost from_gives = { λ error refusal. MatchOption (jws_fault error) (refusal ≡ OutOfMemory) (λ f. cause_of refusal ≡ Some (of_token (jws (Some f)))) };
 
     fn from(error: JwsError) -> Refusal {
         match error {

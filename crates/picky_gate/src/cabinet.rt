@@ -1,8 +1,9 @@
 // Where documents come from.
-ghost use Rattle.std.specs.Prelude.{◌≡◌, ◌≤◌, ◌+◌, ℕ, List, Option, Some, None, IfOk, OnOk, OnErr, IsErrOf, IsOkUnless, take};
+ghost use Rattle.std.specs.Prelude.{◌≡◌, ◌⊎◌, ◌≤◌, ◌+◌, ℕ, List, [], ◌∷◌, ◌++◌, Option, Some, None, IfOk, OnOk, OnErr, IsErr, IsErrOf, IsOkUnless, take};
 ghost use Rattle.std.specs.FinMap as finite;
-ghost use Rattle.picky_gate.specs.Outside.{IsFetched, FetchCause};
-ghost use Rattle.picky_gate.specs.Shelf.{counted};
+ghost use Rattle.picky_gate.specs.Command.{texts_of};
+ghost use Rattle.picky_gate.specs.Outside.{IsFetched, FetchCause, FetchAsks};
+ghost use Rattle.picky_gate.specs.Shelf.{counted, noted};
 
 use crate::text_map::{look_up, put};
 use picky_contract::Bytes;
@@ -21,11 +22,14 @@ pub enum FetchFault {
 
 /// A source of documents, each under a path.
 ///
-/// Its meaning is the content under each path, where it tells that, and a count of faults that never
-/// falls. A fetch changes no content.
+/// Its meaning is the content under each path and the paths that it was asked for so far, where it
+/// tells those, and a count of faults that never falls. A fetch changes no content.
 pub trait Cabinet {
     /// The bytes under a path; none where the cabinet doesn't tell them.
     ghost content: { Self → List ℕ → Option (List ℕ) };
+
+    /// The paths that it was asked for so far, in their order; none where the cabinet doesn't tell them.
+    ghost asked: { Self → Option (List (List ℕ)) };
 
     /// How often a fetch has failed.
     ghost faults: { Self → ℕ };
@@ -33,10 +37,12 @@ pub trait Cabinet {
     /// The bytes under the path: all of them, or the first `limit` + 1 where there are more.
     ///
     /// `Failed` comes only where the count of faults rose in this call or stands at its last value;
-    /// every other answer leaves the count as it was.
+    /// every other answer leaves the count as it was. The path is then the last that was asked for,
+    /// whatever the answer; only where memory is wanting it may be missing from them.
     fn fetch(&mut self, alloc: Global, path: &str, limit: usize) -> Result<Vec<u8>, FetchFault>
         ensures bytes { IfOk result (λ bytes. IsFetched (content self.old path.now) limit bytes.items) }
         ensures same { (p : List ℕ) → content self.new p ≡ content self.old p }
+        ensures asks { FetchAsks (asked self.old) path.now (asked self.new) result }
         ensures cause { FetchCause (faults self.old) (faults self.new) result };
 }
 
@@ -55,15 +61,28 @@ fn first_bytes(alloc: Global, content: &[u8], limit: usize) -> Result<Vec<u8>, F
     }
 }
 
-/// A cabinet in memory, which tells its contents. A path that it doesn't hold is a fault.
+// Puts the path after those that were asked for. After an Err they are as before.
+fn note(alloc: Global, asked: &mut Vec<String>, path: &str) -> Result<(), AllocError>
+    ensures ok { OnOk result (texts_of asked.new.items ≡ texts_of asked.old.items ++ path.now ∷ []) }
+    ensures err { OnErr result (texts_of asked.new.items ≡ texts_of asked.old.items) }
+{
+    let path = String::from_str(alloc, path)?;
+    asked.push(path)?;
+    Ok(())
+}
+
+/// A cabinet in memory, which tells its contents and what it was asked. A path that it doesn't hold is
+/// a fault.
 #[derive(Drop)]
 pub struct MemoryCabinet {
     alloc: Global,
     files: BTreeMap<String, Bytes>,
+    asked: Vec<String>,
     faults: u64,
 }
 
 impl Model for MemoryCabinet {
+    ghost use Rattle.picky_gate.specs.Command.{texts_of};
     ghost use Rattle.picky_gate.specs.Shelf.{Shelf, shelf_code};
     ghost use Rattle.picky_gate.specs.TextMap.{by_text};
 
@@ -71,17 +90,18 @@ impl Model for MemoryCabinet {
 
     ghost coded = { shelf_code };
 
-    ghost view = { λ c. record { files = by_text c.files; faults = c.faults } };
+    ghost view = { λ c. record { files = by_text c.files; asked = texts_of c.asked.items; faults = c.faults } };
 }
 
 impl MemoryCabinet {
     /// An empty cabinet, without taking memory.
     pub fn new(alloc: Global) -> MemoryCabinet
-        ensures { result ≡ record { files = finite.empty; faults = 0 } }
+        ensures { result ≡ record { files = finite.empty; asked = []; faults = 0 } }
     {
         MemoryCabinet {
             alloc,
             files: BTreeMap::new(alloc),
+            asked: Vec::new(alloc),
             faults: 0,
         }
     }
@@ -94,27 +114,46 @@ impl MemoryCabinet {
         let path = String::from_str(self.alloc, path)?;
         put(&mut self.files, path, Bytes::new(bytes))
     }
+
+    /// The paths that were asked for so far, in their order.
+    pub fn asked(&self) -> &[String]
+        ensures { texts_of result.now ≡ self.now.asked }
+    {
+        &self.asked
+    }
 }
 
 impl Cabinet for MemoryCabinet {
     ghost content = { λ c p. finite.get c.files p };
 
+    ghost asked = { λ c. Some c.asked };
+
     ghost faults = { λ c. c.faults };
 
-    /// `Failed` exactly where the cabinet doesn't hold the path.
+    /// `Failed` only where the cabinet doesn't hold the path, and Ok only where it does.
     fn fetch(&mut self, alloc: Global, path: &str, limit: usize) -> Result<Vec<u8>, FetchFault>
         ensures bytes { IfOk result (λ bytes. IsFetched (finite.get self.old.files path.now) limit bytes.items) }
         ensures same { (p : List ℕ) → finite.get self.new.files p ≡ finite.get self.old.files p }
+        ensures asks { FetchAsks (Some self.old.asked) path.now (Some self.new.asked) result }
         ensures cause { FetchCause self.old.faults self.new.faults result }
 
-        // Of a path that is held: its bytes or want of memory, and the cabinet is as before.
+        // Of a path that is held: its bytes or want of memory.
         ensures held { (content : List ℕ) → finite.get self.old.files path.now ≡ Some content
-            → IfOk result (λ bytes. bytes.items ≡ take (limit + 1) content) × IsOkUnless result FetchFault.OutOfMemory × (self.new ≡ self.old) }
+            → IfOk result (λ bytes. bytes.items ≡ take (limit + 1) content) × IsOkUnless result FetchFault.OutOfMemory }
 
-        // Of any other path: a fault, which is counted.
-        ensures missing { finite.get self.old.files path.now ≡ None
-            → IsErrOf result FetchFault.Failed × (self.new ≡ record self.old { faults = counted self.old.faults }) }
+        // Of any other path: a fault or want of memory.
+        ensures missing { finite.get self.old.files path.now ≡ None → IsErr result }
+
+        // Afterwards the path is noted, and a fault is counted; only where memory is wanting all may be as before.
+        ensures fetched { OnOk result (self.new ≡ noted self.old path.now) }
+        ensures failed { IsErrOf result FetchFault.Failed
+            → self.new ≡ record (noted self.old path.now) { faults = counted self.old.faults } }
+        ensures memory { IsErrOf result FetchFault.OutOfMemory
+            → (self.new ≡ self.old) ⊎ (self.new ≡ noted self.old path.now) }
     {
+        if note(self.alloc, &mut self.asked, path).is_err() {
+            return Err(FetchFault::OutOfMemory);
+        }
         match look_up(&self.files, path) {
             Some(content) => first_bytes(alloc, content.as_slice(), limit),
             None => {

@@ -1,6 +1,8 @@
 // The files of the system. What they hold is not told, so no clause speaks of it.
-ghost use Rattle.std.specs.Prelude.{◌≡◌, ◌≤◌, ◌+◌, ℕ, List, Option, None, IfOk, OnOk, vec_len};
-ghost use Rattle.picky_gate.specs.Outside.{IsFetched};
+ghost use Rattle.std.specs.Prelude.{◌≡◌, ◌≢◌, ◌≤◌, ◌+◌, ℕ, List, Option, None, Ok, IfOk, IfErr, OnOk, IsErrOf, vec_len};
+ghost use Rattle.std.specs.IoError.{error_kind};
+ghost use Rattle.picky_gate.specs.Outside.{IsFetched, FetchCause, FetchAsks};
+ghost use Rattle.picky_gate.specs.Shelf.{counted};
 
 use crate::{Cabinet, FetchFault};
 use std::alloc::Global;
@@ -32,18 +34,37 @@ impl<'a, R: Files> FileCabinet<'a, R> {
     {
         FileCabinet { rt, faults: 0 }
     }
+
+    // What a fetch answers where the system said this: its bytes; `OutOfMemory` exactly where its error is that;
+    // and `Failed`, which is counted, of any other error.
+    fn answer(&mut self, said: io::Result<Vec<u8>>) -> Result<Vec<u8>, FetchFault>
+        ensures fetched { IfOk said (λ bytes. (result ≡ Ok bytes) × (self.new ≡ self.old)) }
+        ensures memory { IfErr said (λ e. error_kind e ≡ ErrorKind.OutOfMemory
+            → IsErrOf result FetchFault.OutOfMemory × (self.new ≡ self.old)) }
+        ensures failed { IfErr said (λ e. error_kind e ≢ ErrorKind.OutOfMemory
+            → IsErrOf result FetchFault.Failed × (self.new ≡ counted self.old)) }
+        ensures cause { FetchCause self.old self.new result }
+    {
+        match said {
+            Ok(bytes) => Ok(bytes),
+            Err(error) => {
+                if error.kind() == ErrorKind::OutOfMemory {
+                    return Err(FetchFault::OutOfMemory);
+                }
+                self.faults = self.faults.saturating_add(1);
+                Err(FetchFault::Failed)
+            }
+        }
+    }
 }
 
-/// Reads to the end, or up to `limit` + 1 bytes.
+// Reads to the end, or up to `limit` + 1 bytes.
 fn read_first<F: Read>(alloc: Global, file: &mut F, limit: usize) -> io::Result<Vec<u8>>
-    ensures { IfOk result (λ bytes. vec_len bytes ≤ limit + 1) }
+    ensures { IfOk result (λ bytes. (vec_len bytes ≤ limit + 1) × IsFetched (F.remaining file.old) limit bytes.items) }
 {
     let mut bytes = Vec::new(alloc);
     let mut buffer = [0u8; 4096];
-    'reading: for _ in 0..u64::MAX {
-        if bytes.len() > limit {
-            break;
-        }
+    while bytes.len() <= limit {
         let want = (limit - bytes.len()).saturating_add(1).min(buffer.len());
         let count = file.read(&mut buffer[..want])?;
         if count == 0 {
@@ -64,18 +85,19 @@ fn fetch_file<R: Files>(rt: &R, alloc: Global, path: &str, limit: usize) -> io::
 impl<R: Files> Cabinet for FileCabinet<'_, R> {
     ghost content = { λ c p. None };
 
+    ghost asked = { λ c. None };
+
     ghost faults = { λ c. c };
 
-    fn fetch(&mut self, alloc: Global, path: &str, limit: usize) -> Result<Vec<u8>, FetchFault> {
-        match fetch_file(self.rt, alloc, path, limit) {
-            Ok(bytes) => Ok(bytes),
-            Err(error) => {
-                if error.kind() == ErrorKind::OutOfMemory {
-                    return Err(FetchFault::OutOfMemory);
-                }
-                self.faults = self.faults.saturating_add(1);
-                Err(FetchFault::Failed)
-            }
-        }
+    fn fetch(&mut self, alloc: Global, path: &str, limit: usize) -> Result<Vec<u8>, FetchFault>
+        ensures bytes { IfOk result (λ bytes. IsFetched None limit bytes.items) }
+        ensures asks { FetchAsks None path.now None result }
+        ensures cause { FetchCause self.old self.new result }
+
+        // A fault is counted as one.
+        ensures failed { IsErrOf result FetchFault.Failed → self.new ≡ counted self.old }
+    {
+        let said = fetch_file(self.rt, alloc, path, limit);
+        self.answer(said)
     }
 }

@@ -9,7 +9,7 @@ ghost use Rattle.picky_gate.specs.Seen.{named_entry};
 
 use crate::{KeyName, KeysFault, Ring, RingEntry};
 use picky_jwk::{Jwk, JwkError, JwkSet};
-use picky_key::{PublicKey, SignatureAlgorithm};
+use picky_key::PublicKey;
 use std::alloc::{AllocError, Global};
 
 /// An entry of a ring and its name.
@@ -51,10 +51,7 @@ fn entry_of(alloc: Global, jwk: &Jwk) -> Result<Option<NamedEntry>, AllocError>
     };
     Ok(Some(NamedEntry {
         name: KeyName(String::from_str(alloc, kid.as_str())?),
-        entry: RingEntry::Verify {
-            key,
-            algorithm: SignatureAlgorithm::Ed25519,
-        },
+        entry: RingEntry::Verify { key },
     }))
 }
 

@@ -51,40 +51,40 @@ pub fn admitted_lines(alloc: Global, admitted: &Admitted) -> Result<String, Allo
     }
 }
 
-fn jws_code(error: &JwsError) -> &'static str
-    ensures { result.now ≡ jws_text (jws_fault error.now) }
+// The code of an error; none of want of memory, which prints nothing.
+fn jws_code(error: &JwsError) -> Result<&'static str, AllocError>
+    ensures { IfOk result (λ code. IsSomeAnd (jws_fault error.now) (λ fault. code.now ≡ jws_text fault)) }
 {
     match error {
-        JwsError::Json => "Jws.Json",
-        JwsError::Signature { .. } => "Jws.Signature",
-        JwsError::InvalidEncoding { .. } => "Jws.InvalidEncoding",
-        JwsError::Base64Decoding => "Jws.Base64Decoding",
-        JwsError::Float => "Jws.Float",
-        JwsError::OutOfMemory => "Jws.OutOfMemory",
+        JwsError::Json => Ok("Jws.Json"),
+        JwsError::Signature { .. } => Ok("Jws.Signature"),
+        JwsError::InvalidEncoding { .. } => Ok("Jws.InvalidEncoding"),
+        JwsError::Base64Decoding => Ok("Jws.Base64Decoding"),
+        JwsError::Float => Ok("Jws.Float"),
+        JwsError::OutOfMemory => Err(AllocError),
     }
 }
 
-fn jwt_code(error: &JwtError) -> &'static str
-    ensures { result.now ≡ jwt_text (jwt_fault error.now) }
+fn jwt_code(error: &JwtError) -> Result<&'static str, AllocError>
+    ensures { IfOk result (λ code. IsSomeAnd (jwt_fault error.now) (λ fault. code.now ≡ jwt_text fault)) }
 {
     match error {
         JwtError::Jws { source } => jws_code(source),
-        JwtError::Json => "Jwt.Json",
-        JwtError::InvalidRegisteredClaimType { .. } => "Jwt.InvalidRegisteredClaimType",
-        JwtError::NotYetValid { .. } => "Jwt.NotYetValid",
-        JwtError::Expired { .. } => "Jwt.Expired",
-        JwtError::Float => "Jwt.Float",
-        JwtError::OutOfMemory => "Jwt.OutOfMemory",
+        JwtError::Json => Ok("Jwt.Json"),
+        JwtError::InvalidRegisteredClaimType { .. } => Ok("Jwt.InvalidRegisteredClaimType"),
+        JwtError::NotYetValid { .. } => Ok("Jwt.NotYetValid"),
+        JwtError::Expired { .. } => Ok("Jwt.Expired"),
+        JwtError::Float => Ok("Jwt.Float"),
+        JwtError::OutOfMemory => Err(AllocError),
     }
 }
 
-// The code of a refusal; none of want of memory, which prints nothing.
 fn refusal_code(refusal: &Refusal) -> Result<&'static str, AllocError>
     ensures { IfOk result (λ code. IsSomeAnd (cause_of refusal.now) (λ cause. code.now ≡ cause_text cause)) }
 {
     match refusal {
         Refusal::NoKey => Ok("NoKey"),
-        Refusal::Token(error) => Ok(jwt_code(error)),
+        Refusal::Token(error) => jwt_code(error),
         Refusal::OutOfMemory => Err(AllocError),
         Refusal::Unbuilt => Ok("Unbuilt"),
     }

@@ -5,10 +5,10 @@ ghost use Rattle.picky_gate.specs.Admissible.{Admission};
 ghost use Rattle.picky_gate.specs.Asked.{admit_of};
 ghost use Rattle.picky_gate.specs.Command.{texts_of, Admit, IsCommand};
 ghost use Rattle.picky_gate.specs.Documents.{limit};
-ghost use Rattle.picky_gate.specs.Headline.{Headline};
 ghost use Rattle.picky_gate.specs.Lines.{admitted_text};
+ghost use Rattle.picky_gate.specs.Outcome.{Outcome};
 ghost use Rattle.picky_gate.specs.Outside.{IsFetched, Adds};
-ghost use Rattle.picky_gate.specs.Reply.{AreFetched, UnfetchedCause, Delivers, Replies, Said, reply_text, unread};
+ghost use Rattle.picky_gate.specs.Reply.{AreFetched, UnfetchedCause, OneAsked, AllAsked, Delivers, Replies, Said, reply_text, unread};
 
 use crate::documents::{Document, Documents, LIMIT, decide};
 use crate::lines::{admitted_lines, fault_line};
@@ -39,6 +39,7 @@ fn fetch_one<C: Cabinet>(
 ) -> Result<Bytes, Unfetched>
     ensures bytes { IfOk result (λ bytes. IsFetched (C.content cabinet.old path.now) limit bytes) }
     ensures same { (p : List ℕ) → C.content cabinet.new p ≡ C.content cabinet.old p }
+    ensures asks { OneAsked (C.asked cabinet.old) path.now document (C.asked cabinet.new) result }
     ensures cause { UnfetchedCause (C.faults cabinet.old) (C.faults cabinet.new) result }
 {
     match cabinet.fetch(alloc, path, LIMIT) {
@@ -55,6 +56,7 @@ fn fetch_documents<C: Cabinet>(
     words: AdmitWords<'_>,
 ) -> Result<Documents, Unfetched>
     ensures bytes { IfOk result (λ docs. AreFetched (C.content cabinet.old) (admit_of words.entry) docs) }
+    ensures asks { AllAsked (C.asked cabinet.old) (admit_of words.entry) (C.asked cabinet.new) result }
     ensures cause { UnfetchedCause (C.faults cabinet.old) (C.faults cabinet.new) result }
 {
     let keys = match fetch_one(alloc, cabinet, words.keys, Document::Keys) {
@@ -116,7 +118,16 @@ fn perform<C: Cabinet, K: Sink>(
     cabinet: &mut C,
     out: &mut K,
 ) -> Status
-    ensures replies { Replies (texts_of words.now) (C.content cabinet.old) (Rose (C.faults cabinet.old) (C.faults cabinet.new)) (K.room out.old) result.code (K.written out.old) (K.written out.new) }
+    ensures replies { Replies (record {
+      words = texts_of words.now;
+      status = result.code;
+      content = C.content cabinet.old;
+      asked = record { before = C.asked cabinet.old; after = C.asked cabinet.new };
+      fetch_faults = record { before = C.faults cabinet.old; after = C.faults cabinet.new };
+      written = record { before = K.written out.old; after = K.written out.new };
+      write_faults = record { before = K.faults out.old; after = K.faults out.new };
+      room = K.room out.old;
+    }) }
     ensures write_failed { K.faults out.old < K.faults out.new → result.code ≡ 6 }
     ensures fetch_failed { result.code ≢ 6 → C.faults cabinet.old < C.faults cabinet.new → result.code ≡ 3 }
     ensures six { result.code ≡ 6 → Rose (K.faults out.old) (K.faults out.new) }
@@ -147,8 +158,19 @@ pub fn run<C: Cabinet, K: Sink>(
     cabinet: &mut C,
     out: &mut K,
 ) -> Status
-    // What is written is one reply of these words over these contents, whole unless a write failed.
-    ensures replies { Replies (texts_of words.now) (C.content cabinet.old) (Rose (C.faults cabinet.old) (C.faults cabinet.new)) (K.room out.old) result.code (K.written out.old) (K.written out.new) }
+    // What was replied and asked, and the headline: over documents that are told, with no failure, the status is 0,
+    // with its two lines, exactly where the text is admissible, otherwise the code is that of the first condition
+    // that fails. Want of memory is free.
+    ensures outcome { Outcome (record {
+      words = texts_of words.now;
+      status = result.code;
+      content = C.content cabinet.old;
+      asked = record { before = C.asked cabinet.old; after = C.asked cabinet.new };
+      fetch_faults = record { before = C.faults cabinet.old; after = C.faults cabinet.new };
+      written = record { before = K.written out.old; after = K.written out.new };
+      write_faults = record { before = K.faults out.old; after = K.faults out.new };
+      room = K.room out.old;
+    }) }
 
     // Where a write failed the status is 6, else where a fetch failed it is 3; and they have no other cause.
     ensures write_failed { K.faults out.old < K.faults out.new → result.code ≡ 6 }
@@ -164,10 +186,6 @@ pub fn run<C: Cabinet, K: Sink>(
     // Status 0 comes only where nothing failed, with the two lines of what was admitted written whole.
     ensures zero { result.code ≡ 0 → (C.faults cabinet.new ≡ C.faults cabinet.old) × (K.faults out.new ≡ K.faults out.old)
         × ((a : Admission) × Adds (K.written out.old) (admitted_text a) (K.written out.new)) }
-
-    // Over documents that are told, with no failure: the status is 0, with its two lines, exactly where the text
-    // is admissible, otherwise the code is that of the first condition that fails. Want of memory is free.
-    ensures headline { Headline (texts_of words.now) (C.content cabinet.old) (Rose (C.faults cabinet.old) (C.faults cabinet.new)) (Rose (K.faults out.old) (K.faults out.new)) (K.room out.old) result.code (K.written out.old) (K.written out.new) }
 {
     perform(alloc, words, cabinet, out)
 }

@@ -5,7 +5,7 @@ ghost use Rattle.std.specs.FinMap as finite;
 ghost use Rattle.picky_contract.specs.Refusals.{Meets, need};
 
 use crate::text_map::{look_up, put};
-use picky_key::{PublicKey, SignatureAlgorithm};
+use picky_key::PublicKey;
 use std::alloc::{AllocError, Global};
 use std::collections::BTreeMap;
 use std::marker::Model;
@@ -18,11 +18,8 @@ pub struct KeyName(pub String);
 /// What a ring holds under a name.
 #[derive(Debug, Drop)]
 pub enum RingEntry {
-    /// A public key, and the signature algorithm of its texts.
-    Verify {
-        key: PublicKey,
-        algorithm: SignatureAlgorithm,
-    },
+    /// A public key.
+    Verify { key: PublicKey },
 }
 
 impl RingEntry {
@@ -33,7 +30,7 @@ impl RingEntry {
         ensures { result.now ≡ public self.now }
     {
         match self {
-            RingEntry::Verify { key, .. } => key,
+            RingEntry::Verify { key } => key,
         }
     }
 }

@@ -1,5 +1,9 @@
-use Rattle.std.proofs.Common.{◌≤◌, ◌+◌, vec_len}
+use Rattle.std.proofs.Common.{◌≤◌, ◌+◌, ◌-◌, vec_len}
+use Rattle.std.specs.Io.KnownBytes.{Consumes}
 use Rattle.picky_gate.proofs.files.read_first.Given as goal
 
-abbrev pub invariant-reading : goal.invariant-reading
-invariant-reading g l = vec_len l.bytes ≤ l.limit + 1
+abbrev pub invariant-loop-buffer : goal.invariant-loop-buffer
+invariant-loop-buffer g l = record { few : vec_len l.bytes ≤ l.limit + 1; read : Consumes (g.F.Read.remaining l.initial.file) (g.F.Read.remaining l.file) l.bytes.items }
+
+abbrev pub decreases-loop-buffer : goal.decreases-loop-buffer
+decreases-loop-buffer g l = l.limit + 1 - vec_len l.bytes

@@ -1,5 +1,7 @@
-use Rattle.std.proofs.Common.{inr, refl, ap, ◌∙◌, rules}
+use Rattle.std.proofs.Common.{inl, inr, refl, ap, ◌∙◌, rules, Result, Err}
 use Rattle.picky_gate.specs.declared.documents.Document.{Document}
+use Rattle.picky_gate.specs.declared.documents.Documents.{Documents}
+use Rattle.picky_gate.specs.declared.program.Unfetched.{Unfetched}
 use Rattle.picky_gate.specs.Asked.{admit_of}
 use Rattle.picky_gate.specs.Reply.{unread, reply_text}
 use Rattle.picky_gate.proofs.Delivery.{same_text, is_reply}
@@ -9,7 +11,12 @@ pub returns-in-Err-Failed-clause-replies : goal.returns-in-Err-Failed-clause-rep
 returns-in-Err-Failed-clause-replies g c =
     inr (
       unread c.in-Err-Failed.document,
-      ((admit_of c.in-Some.command, c.in-Some.ensures), search rules),
+      record {
+        command = admit_of c.in-Some.command;
+        is_command = c.in-Some.ensures;
+        asked = c.in-Err-Failed.ensures.asks.failed c.in-Err-Failed.document (ap (λ (u : Unfetched). let r : Result Documents Unfetched = Err u in r) c.in-Err-Failed.field-0-is);
+        failed = search rules;
+      },
       same_text _ _ _ _ _ _ _ _ (c.unread_line.ensures ∙ ap (λ (d : Document). reply_text (unread d)) c.in-Err-Failed.document-is) refl c.finish-in-Err-Failed.ensures.delivers,
     )
 
@@ -18,6 +25,15 @@ returns-in-Ok-answer-clause-replies g c =
     let said = c.in-Ok-answer.ensures in
     inr (
       said.reply,
-      is_reply _ _ _ (admit_of c.in-Some.command) _ said.reply c.in-Some.ensures c.in-Ok.ensures.bytes said.is,
+      is_reply _ (admit_of c.in-Some.command) _ said.reply c.in-Some.ensures c.in-Ok.ensures.asks.fetched c.in-Ok.ensures.bytes said.is,
       same_text _ _ _ _ _ _ _ _ (c.as_bytes.ensures.value ∙ said.text) said.status c.finish-in-Ok-answer.ensures.delivers,
     )
+
+pub returns-clause-replies : goal.returns-clause-replies
+returns-clause-replies g c = inl (record {
+  five = refl;
+  nothing = refl;
+  command = admit_of c.in-Some.command;
+  is_command = c.in-Some.ensures;
+  asked = (2, c.in-Ok.ensures.asks.fetched);
+})
