@@ -16,9 +16,9 @@ use rows::{Answer, Calls, Words, answer_rows};
 use std::alloc::Global;
 use std::process::ExitCode;
 
-struct Tokens;
+struct TokenCalls;
 
-impl Calls for Tokens {
+impl Calls for TokenCalls {
     fn answer(alloc: Global, notion: &str, call: &str, words: &mut Words<'_>) -> Result<Answer> {
         match notion {
             "base64" => base64::answer(alloc, call, words),
@@ -36,5 +36,5 @@ impl Calls for Tokens {
 }
 
 fn main(rt: HostRuntime) -> Result<ExitCode> {
-    answer_rows::<Tokens>(&rt)
+    answer_rows::<TokenCalls>(&rt)
 }
