@@ -12,7 +12,7 @@ use Rattle.picky_jwk.specs.declared.alg.JwsAlg.{JwsAlg}
 use Rattle.picky_jwk.specs.declared.alg.JwsAlg.TheVariants as alg
 use Rattle.picky_jose.specs.declared.signature.Asked.{Asked}
 use Rattle.picky_jose.specs.declared.signature.Asked.TheVariants.{Nothing, Plain, Numbers}
-use Rattle.picky_jose.specs.Token.{HalvesOf}
+use Rattle.picky_jose.specs.Token.{Halves, HalvesOf}
 use Rattle.picky_jose.specs.Faults.{SignatureFault, unsupported, bad, ec_size, JwsFault, signature, invalid_encoding, not_base64}
 
 -- what a name asks of a provider: nothing, where it has no signature algorithm; the signature as it
@@ -52,6 +52,12 @@ signed_table signs key name token = do
   halves ← the (HalvesOf token) (invalid_encoding token)
   s ← the (B64 Url halves.signature) not_base64
   vouched_rows signs key name halves.signed s
+
+-- what stands after the last dot of a text spells this signature
+pub record EndsWith (token s : List ℕ) : Type 0 where
+  pub halves : Halves
+  pub cut : HalvesOf token halves
+  pub spelled : B64 Url halves.signature s
 
 -- an answer that is none where nothing is refused, as a result
 abbrev pub refusal : Option SignatureError → Result ⊤ SignatureError

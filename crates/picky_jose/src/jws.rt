@@ -6,7 +6,7 @@ ghost use Rattle.picky_jose.specs.Faults.{jws_fault};
 use crate::cut::parts_of;
 use crate::error::JwsError;
 use crate::header::{JwsHeader, header_from};
-use crate::signature::check_signature;
+use crate::signature::{check_decoded, check_signature};
 use picky_base64::Form;
 use picky_key::{KeyProvider, PublicKey};
 use std::alloc::{AllocError, Global};
@@ -133,6 +133,34 @@ impl<'repr> RawJws<'repr> {
             public_key,
             self.header.alg,
             self.compact_repr.as_str(),
+        )?;
+        Ok(Jws {
+            header: self.header,
+            payload: self.payload,
+        })
+    }
+
+    /// The same of a token that is as it was read, which the caller knows: its signature isn't decoded
+    /// again.
+    ///
+    /// `Signature` is the one refusal, as `verify` has it.
+    pub fn verify_as_read<P: KeyProvider>(
+        self,
+        alloc: Global,
+        provider: &P,
+        public_key: &PublicKey,
+    ) -> Result<Jws, JwsError>
+        requires { TokenReading (reading_of self) (text_of self) }
+        ensures first { Meets (λ x. tt) jws_fault result (signed_table (P.signs provider.now) public_key.now self.entry.header.alg (text_of self.entry)) }
+        ensures content { IfOk result (λ x. jws_content x ≡ raw_content self.entry) }
+    {
+        check_decoded(
+            alloc,
+            provider,
+            public_key,
+            self.header.alg,
+            self.compact_repr.as_str(),
+            &self.signature,
         )?;
         Ok(Jws {
             header: self.header,

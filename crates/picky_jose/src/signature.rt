@@ -2,7 +2,7 @@
 ghost use Rattle.std.specs.Prelude.{◌≡◌, IfOk, Some};
 ghost use Rattle.picky_contract.specs.Refusals.{Meets};
 ghost use Rattle.picky_jose.specs.Faults.{jws_fault, signature_fault};
-ghost use Rattle.picky_jose.specs.Signatures.{asked_by as asked_of, refusal, vouched_table, signed_table};
+ghost use Rattle.picky_jose.specs.Signatures.{asked_by as asked_of, refusal, vouched_table, vouched_rows, signed_table, EndsWith};
 
 use crate::cut::halves_of;
 use crate::error::JwsError;
@@ -73,6 +73,24 @@ fn vouch<P: KeyProvider>(
     }
 }
 
+// Whether the provider vouches for the signature, under a name.
+fn check_vouched<P: KeyProvider>(
+    alloc: Global,
+    provider: &P,
+    public_key: &PublicKey,
+    alg: JwsAlg,
+    signed: &[u8],
+    signature: &[u8],
+) -> Result<(), JwsError>
+    ensures { Meets (λ u. u) jws_fault result (vouched_rows (P.signs provider.now) public_key.now alg signed.now signature.now) }
+{
+    let asked = asked_by(alg);
+    match vouch(alloc, provider, public_key, asked, signed, signature)? {
+        None => Ok(()),
+        Some(source) => Err(JwsError::from(source)),
+    }
+}
+
 // Whether the text is signed: the bytes before its last dot, by what the text after it spells.
 #[tactic(auto, unfolding(crate::specs::Signatures::signed_table))]
 pub(crate) fn check_signature<P: KeyProvider>(
@@ -91,16 +109,31 @@ pub(crate) fn check_signature<P: KeyProvider>(
     let Some(signature) = picky_base64::decode(alloc, Form::Url, signature)? else {
         return Err(JwsError::Base64Decoding);
     };
-    let asked = asked_by(alg);
-    match vouch(
+    let message = signed.as_bytes();
+    check_vouched(alloc, provider, public_key, alg, message, &signature)
+}
+
+// The same of a text whose signature is decoded already.
+pub(crate) fn check_decoded<P: KeyProvider>(
+    alloc: Global,
+    provider: &P,
+    public_key: &PublicKey,
+    alg: JwsAlg,
+    token: &str,
+    signature: &[u8],
+) -> Result<(), JwsError>
+    requires { EndsWith token.now signature.now }
+    ensures { Meets (λ u. u) jws_fault result (signed_table (P.signs provider.now) public_key.now alg token.now) }
+{
+    let Some((signed, _)) = halves_of(token) else {
+        unreachable!();
+    };
+    check_vouched(
         alloc,
         provider,
         public_key,
-        asked,
+        alg,
         signed.as_bytes(),
-        &signature,
-    )? {
-        None => Ok(()),
-        Some(source) => Err(JwsError::Signature { source }),
-    }
+        signature,
+    )
 }

@@ -2,15 +2,17 @@
 -- holds of the bytes before its last dot, as they stand, and of its signature.
 use Rattle.std.proofs.Common.{◌≡◌, ℕ, List, ◌∷◌, inl, inr, sym, ◌∙◌, ap, subst, append_assoc}
 use Rattle.picky_contract.specs.laws.Cuts.{last-once}
+use Rattle.picky_contract.specs.laws.Tables.{Leads}
 use Rattle.picky_base64.specs.Base64.{B64}
 use Rattle.picky_base64.specs.declared.Form.TheVariants.{Url}
 use Rattle.picky_base64.specs.laws.Encoding.{once}
 use Rattle.picky_key.specs.declared.key.PublicKeyKind.{PublicKeyKind}
 use Rattle.picky_key.specs.declared.algorithm.SignatureAlgorithm.TheVariants.{Ed25519}
+use Rattle.picky_jwk.specs.declared.alg.JwsAlg.{JwsAlg}
 use Rattle.picky_jwk.specs.declared.alg.JwsAlg.TheVariants.{EdDSA}
 use Rattle.picky_jose.specs.Token.{Halves, HalvesOf, dot}
 use Rattle.picky_jose.specs.Refusals.{Reading, TokenReading, signed_bytes}
-use Rattle.picky_jose.specs.Signatures.{Relation, signed_table, vouched_table}
+use Rattle.picky_jose.specs.Signatures.{Relation, signed_table, vouched_table, vouched_rows, EndsWith}
 use Rattle.picky_jose.specs.Faults.{JwsFault, signature, bad}
 
 -- a text is cut at its last dot in one way
@@ -30,6 +32,11 @@ module _ (x : Reading) (token : List ℕ) where
     last = r.joined.last;
     signature = r.joined.signature;
   }
+
+  -- what stands after its last dot spells its signature
+  pub ends_with : TokenReading x token → EndsWith token x.signature
+  unfolding halves
+  ends_with r = record { halves = halves r; cut = halves_of r; spelled = r.signature }
 
   module _ (signs : Relation) (key : PublicKeyKind) where
     -- the rows accept it, and the relation holds of the reading
@@ -62,3 +69,15 @@ module _ (x : Reading) (token : List ℕ) where
           f_is ∙ ap (λ e. signature e) g_is,
           λ signed. unsigned (subst (λ (t : List ℕ). signs key Ed25519 h.signed t) s_same (subst (λ (k : Halves). signs key Ed25519 k.signed x.signature) same signed)),
         )
+
+-- where the signature is decoded, the rows of a signature are left
+pub decoded_leads : (signs : Relation) (key : PublicKeyKind) (alg : JwsAlg) (token s : List ℕ) (h : Halves) → EndsWith token s → HalvesOf token h
+    → Leads (vouched_rows signs key alg h.signed s) (signed_table signs key alg token)
+unfolding signed_table
+decoded_leads signs key alg token s h e cut =
+    let same : h ≡ e.halves = one_half token e.halves h e.cut cut in
+    let spelled : B64 Url h.signature s = subst (λ (k : Halves). B64 Url k.signature s) (sym same) e.spelled in
+    record {
+      gives = λ u v. (h, (cut, λ y k. one_half token h y cut k), (s, (spelled, λ t k. once Url h.signature s t spelled k), v));
+      refuses = λ f r. inr (h, (cut, λ y k. one_half token h y cut k), inr (s, (spelled, λ t k. once Url h.signature s t spelled k), r));
+    }

@@ -1,0 +1,7 @@
+use Rattle.picky_jose.specs.Refusals.{reading_of}
+use Rattle.picky_jose.specs.Views.{text_of}
+use Rattle.picky_jose.specs.laws.Vouching.{ends_with}
+use Rattle.picky_jose.proofs.jws.RawJws.verify_as_read.Goals as goal
+
+pub check_decoded-requires : goal.check_decoded-requires
+check_decoded-requires g c = rw (c.as_str.ensures.value, c.deref.ensures.value) (ends_with (reading_of c.args.self) (text_of c.args.self) c.requires)
