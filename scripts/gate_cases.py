@@ -184,6 +184,19 @@ def print_runs():
     row("keys are put where none were", f"gate.run_over nowhere {document('keys').hex()} {missing}", f"0 {ADMITTED}")
 
 
+def print_asked():
+    print("# What a run asks its cabinet for")
+    for name, call, paths in [
+        ("the keys, then the records", words(FIRST), "|keys|records"),
+        ("nothing more after keys that are not held", words(FIRST, keys="nowhere"), "|nowhere"),
+        ("records that are not held are asked for once", words(FIRST, records="nowhere"), "|keys|nowhere"),
+        ("one path for both documents is asked for twice", words(FIRST, records="keys"), "|keys|keys"),
+        ("documents that are bad are asked for once", words(FIRST, keys="object", records="word"), "|object|word"),
+        ("nothing for words that are no command", "|admit", "-"),
+    ]:
+        row(name, f"gate.asked {call}", paths)
+
+
 def print_files():
     print("# Files: the bytes at limits below, at and above the length; as many as the limit and one more are read")
     for name, limits in [("five", [0, 3, 4, 5, 9]), ("empty", [0, 9]), ("latin", [9])]:
@@ -210,5 +223,7 @@ else:
     print_texts()
     print()
     print_runs()
+    print()
+    print_asked()
     print()
     print_files()

@@ -3,6 +3,7 @@
 //     gate.run WORDS                      STATUS TEXT, with room for 100 bytes
 //     gate.run_in ROOM WORDS              STATUS LEFT TEXT, with so much room, at most 100, and what of it is left
 //     gate.run_over PATH BYTES WORDS      STATUS TEXT, where these bytes were put under the path before
+//     gate.asked WORDS                    the paths that the cabinet was asked for, each behind a bar
 //
 // WORDS are those of the program, each behind a bar. What they name is held where it is a file of the folder `data`,
 // or `full` or `long`, which are spaces up to the greatest length of a document and one above it.
@@ -39,6 +40,7 @@ pub(crate) fn answer(rt: &HostRuntime, call: &str, words: &mut Words<'_>) -> Res
         "run" => run_with_room(rt, words),
         "run_in" => run_in(rt, words),
         "run_over" => run_over(rt, words),
+        "asked" => asked(rt, words),
         _ => bail!("no such call"),
     }
 }
@@ -72,4 +74,18 @@ fn run_over(rt: &HostRuntime, words: &mut Words<'_>) -> Result<Answer> {
     let mut out = MemorySink::new(alloc, 100)?;
     let status = run(alloc, &words, &mut cabinet, &mut out);
     status_and_text(alloc, status.code, &out)
+}
+
+fn asked(rt: &HostRuntime, words: &mut Words<'_>) -> Result<Answer> {
+    let alloc = rt.alloc();
+    let words = program_words(alloc, words)?;
+    let mut cabinet = cabinet(rt, &words)?;
+    let mut out = MemorySink::new(alloc, 100)?;
+    let _status = run(alloc, &words, &mut cabinet, &mut out);
+    let mut paths = String::new(alloc);
+    for path in cabinet.asked() {
+        paths.push('|')?;
+        paths.push_str(path)?;
+    }
+    Answer::lines(alloc, &paths)
 }
