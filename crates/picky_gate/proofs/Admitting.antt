@@ -1,6 +1,6 @@
 -- The table of a text says the same as its reading.
-use Rattle.std.proofs.Common.{◌≡◌, ℕ, List, Some, subst, sym, ◌∙◌}
-use Rattle.picky_contract.proofs.Tables.{Exact, the_exact, need_exact, done_exact, then_exact}
+use Rattle.std.proofs.Common.{◌≡◌, ℕ, List, subst, sym, ◌∙◌}
+use Rattle.picky_contract.specs.laws.Tables.{Exact, the_exact, need_exact, done_exact, then_exact}
 use Rattle.picky_jose.specs.declared.date.JwtDate.{JwtDate}
 use Rattle.picky_jose.specs.Header.{Header}
 use Rattle.picky_jose.specs.Refusals.{Reading, TokenReading}

@@ -1,7 +1,7 @@
 -- The decision over documents says one thing, and it is that of the headline's words.
 use Rattle.std.proofs.Common.{◌≡◌, inl, inr, ◌≤◌, ◌+◌, ℕ, List, length, take, IsUtf8, sym, ◌∙◌, subst, arith, refl}
 use Rattle.std.proofs.lemmas.List.{take_all, length-take}
-use Rattle.picky_contract.proofs.Tables.{Exact, the_exact, need_exact, done_exact, then_exact, named_exact, Leads, leads_itself, then_leads, named_leads}
+use Rattle.picky_contract.specs.laws.Tables.{Exact, the_exact, need_exact, done_exact, then_exact, named_exact, Leads, leads_itself, then_leads, named_leads}
 use Rattle.picky_json.specs.Tree.{FloatFree}
 use Rattle.picky_key.specs.Records.{FirstRecordsOf, Signs}
 use Rattle.picky_jwk.specs.Refusals.{unbuilt}

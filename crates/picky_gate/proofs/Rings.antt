@@ -1,17 +1,14 @@
 -- Rings that are made of keys.
-use Rattle.std.proofs.Common.{◌≡◌, ℕ, List, [], ◌∷◌, ◌++◌, length, map, Option, Some, None, IfSome, refl, sym, ◌∙◌, ap, subst, append_assoc}
+use Rattle.std.proofs.Common.{◌≡◌, ℕ, List, [], ◌∷◌, ◌++◌, map, Option, Some, None, IfSome, refl, sym, ◌∙◌, ap, subst, append_assoc}
 use Rattle.std.proofs.lemmas.List.{append-nil, map-append}
 use Rattle.std.specs.FinMap.{get, insert}
 use Rattle.std.specs.List.{AllZip}
-use Rattle.picky_base64.specs.Base64.{B64}
-use Rattle.picky_base64.specs.declared.Form.TheVariants.{Url}
 use Rattle.picky_contract.specs.Refusals.{Finds}
-use Rattle.picky_contract.proofs.Tables.{Exact, the_exact, need_exact, done_exact, then_exact}
 use Rattle.picky_key.specs.declared.key.PublicKeyKind.{PublicKeyKind}
-use Rattle.picky_key.specs.declared.key.PublicKeyKind.TheVariants.{Ed}
-use Rattle.picky_jwk.specs.Jwk.{Jwk, KeyType, ed}
+use Rattle.picky_jwk.specs.Jwk.{Jwk, KeyType}
 use Rattle.picky_jwk.specs.Keys.{FirstKeysOf}
-use Rattle.picky_jwk.specs.Refusals.{Fault, not_base64, bad_ed_key, ed_algorithm, key_table}
+use Rattle.picky_jwk.specs.Refusals.{Fault, key_table}
+use Rattle.picky_jwk.specs.laws.Keys.{key_exact}
 use Rattle.picky_gate.specs.declared.ring.RingEntry.{RingEntry}
 use Rattle.picky_gate.specs.declared.first_ring.NamedEntry.{NamedEntry}
 use Rattle.picky_gate.specs.Ring.{Named, KeyOf, EntryOf, ring_with, AreApart, Holds, RingOf, FirstRingOf}
@@ -26,13 +23,6 @@ finds_next see P Q W a pa one make from None none = λ y w. let t = from y w in 
 finds_next see P Q W a pa one make from (Some v) (h, only) = (make a (see v) pa h, λ y w. let t = from y w in only y (subst (λ b. Q b y) (one t.0 t.1) t.2))
 
 -- ---- keys
-
-key_exact : (k : KeyType) → Exact (key_table k)
-unfolding key_table
-key_exact (ed crv x) =
-    then_exact _ _ (the_exact (B64 Url x) not_base64) (λ bytes.
-    then_exact _ _ (need_exact (length bytes ≡ 32) bad_ed_key) (λ _.
-    done_exact (Ed (ed_algorithm crv) bytes)))
 
 pub key_found : (k : KeyType) (key : PublicKeyKind) → (key_table k).gives key → KeyOf k key × ((y : PublicKeyKind) → KeyOf k y → y ≡ key)
 key_found k key h = ((key_exact k).holds key h, λ y g. (key_exact k).one key y h g)

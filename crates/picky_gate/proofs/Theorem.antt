@@ -1,6 +1,6 @@
 -- What the program says is what the decision says of the documents that the cabinet tells.
 use Rattle.std.proofs.Common.{◌≡◌, inl, inr, ◌≤◌, ◌<◌, ◌+◌, ◌⊎◌, ℕ, List, [], ◌∷◌, take, Option, Some, sym, subst, arith}
-use Rattle.picky_contract.proofs.Tables.{Leads}
+use Rattle.picky_contract.specs.laws.Tables.{Leads}
 use Rattle.picky_gate.specs.declared.documents.Document.{Document}
 use Rattle.picky_gate.specs.declared.documents.Document.TheVariants.{Keys, Records}
 use Rattle.picky_gate.specs.declared.documents.Documents.{Documents}
@@ -8,9 +8,9 @@ use Rattle.picky_gate.specs.Admissible.{Admission}
 use Rattle.picky_gate.specs.Command.{Text, Admit, IsCommand}
 use Rattle.picky_gate.specs.Documents.{limit, decision, IsAdmissible}
 use Rattle.picky_gate.specs.Faults.{Why, bad, refused}
-use Rattle.picky_gate.specs.Headline.{Tells, IsTaken, Says, Headline}
+use Rattle.picky_gate.specs.Headline.{Tells, IsTaken, Says}
 use Rattle.picky_gate.specs.Lines.{admitted_text, why_status, why_text}
-use Rattle.picky_gate.specs.Outcome.{Asks, Outcome}
+use Rattle.picky_gate.specs.Outcome.{Outcome}
 use Rattle.picky_gate.specs.Outside.{IsFetched, Adds}
 use Rattle.picky_gate.specs.Reply.{Reply, usage, unread, admitted, failed, ComesTo, IsAnswer, IsReply, reply_text, reply_status, Delivers, Replies}
 use Rattle.picky_gate.specs.Run.{Run, FetchFailed, WriteFailed, Asked, Wrote, paths_of, paths_to}

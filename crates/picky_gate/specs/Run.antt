@@ -1,9 +1,9 @@
 -- What a run saw: its words, its status, and what the cabinet and the sink tell before and after it (own).
-use Rattle.std.specs.Prelude.{◌≡◌, ◌≢◌, ◌⊎◌, ℕ, List, [], ◌∷◌, take, Option}
+use Rattle.std.specs.Prelude.{ℕ, List, [], ◌∷◌, Option}
 use Rattle.picky_contract.specs.Causes.{Rose}
 use Rattle.picky_gate.specs.declared.documents.Document.{Document}
 use Rattle.picky_gate.specs.declared.documents.Document.TheVariants.{Keys, Records}
-use Rattle.picky_gate.specs.Command.{Text, Admit, IsCommand}
+use Rattle.picky_gate.specs.Command.{Text, Admit}
 use Rattle.picky_gate.specs.Outside.{Adds}
 
 -- what something was before the run and is after it

@@ -11,7 +11,7 @@ ghost use Rattle.picky_gate.specs.Seen.{first_text, key_view};
 use crate::bearer::signed_token;
 use crate::claims::first_claims;
 use crate::{KeyName, Policy, Ring};
-use picky_jose::{Jws, JwsError, JwsHeader, JwtError, JwtSig, JwtValidator, RawJws};
+use picky_jose::{Jws, JwsError, JwsHeader, JwtError, JwtValidator, RawJws};
 use picky_key::{KeyProvider, PublicKey};
 use serde_json::Value;
 use std::alloc::{AllocError, Global};
@@ -135,14 +135,14 @@ fn claimed(
     ensures { Meets admission_of cause_of result
         (claimed_table validator.now (string_bytes name.0) (jws_content jws).header (jws_content jws).payload) }
 {
-    if first_claims(alloc, &jws.payload)?.is_none() {
+    let Some(claims) = first_claims(alloc, &jws.payload)? else {
         return Err(Refusal::Unbuilt);
-    }
-    match JwtSig::from(jws).validate(alloc, validator) {
-        Ok(jwt) => Ok(Admitted::Token {
+    };
+    match validator.check_dates(&claims.tree) {
+        Ok(()) => Ok(Admitted::Token {
             name,
-            header: jwt.header,
-            claims: jwt.state.claims,
+            header: jws.header,
+            claims: claims.tree,
         }),
         Err(error) => Err(Refusal::from(error)),
     }
@@ -162,7 +162,7 @@ fn judged<P: KeyProvider>(
     ensures { Meets admission_of cause_of result
         (judged_table (P.signs provider.now) validator.now (first_text token.entry) (record { name = string_bytes name.0; key = key.now })) }
 {
-    match token.verify(alloc, provider, key) {
+    match token.verify_as_read(alloc, provider, key) {
         Ok(jws) => claimed(alloc, name, jws, validator),
         Err(error) => Err(Refusal::from(error)),
     }

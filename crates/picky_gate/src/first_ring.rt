@@ -55,7 +55,7 @@ fn entry_of(alloc: Global, jwk: &Jwk) -> Result<Option<NamedEntry>, AllocError>
     }))
 }
 
-#[tactic(auto, using(picky_contract::proofs::Growing::grows_turn, picky_contract::proofs::Growing::grows_end))]
+#[tactic(auto, using(picky_contract::specs::laws::Growing::grows_turn, picky_contract::specs::laws::Growing::grows_end))]
 fn entries_of(alloc: Global, keys: &Vec<Jwk>) -> Result<Option<Vec<NamedEntry>>, AllocError>
     ensures { IfOk result (Finds (λ v. map named_entry v.items) (AllZip EntryOf (jwks_view keys.now.items))) }
 {

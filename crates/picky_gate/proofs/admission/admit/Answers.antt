@@ -1,5 +1,5 @@
 use Rattle.std.proofs.lemmas.Result.{IfOk-weaker}
-use Rattle.picky_contract.proofs.Tables.{found, complete}
+use Rattle.picky_contract.specs.laws.Tables.{found, complete}
 use Rattle.picky_gate.specs.Refusals.{cause_of, admission_of, admits_table}
 use Rattle.picky_gate.proofs.Admitting.{admits_exact, to_admissible, from_admissible}
 use Rattle.picky_gate.proofs.admission.admit.Goals as goal

@@ -1,6 +1,6 @@
 use Rattle.std.proofs.Common.{List, ℕ, subst}
 use Rattle.picky_contract.specs.Refusals.{Meets, the, ◌>>=◌}
-use Rattle.picky_contract.proofs.Tables.{then_meets}
+use Rattle.picky_contract.specs.laws.Tables.{then_meets}
 use Rattle.picky_gate.specs.Admissible.{FirstTextOf, FirstText, IsKeyUnder}
 use Rattle.picky_gate.specs.Refusals.{admission_of, cause_of, unbuilt, no_key, judged_table, admits_table}
 use Rattle.picky_gate.specs.Seen.{first_text, key_view}

@@ -1,6 +1,6 @@
 use Rattle.std.proofs.Common.{refl, string_bytes, subst}
 use Rattle.picky_contract.specs.Refusals.{Meets, need}
-use Rattle.picky_contract.proofs.Tables.{then_meets}
+use Rattle.picky_contract.specs.laws.Tables.{then_meets}
 use Rattle.picky_jose.specs.Faults.{jws_fault}
 use Rattle.picky_jose.specs.Views.{Content}
 use Rattle.picky_gate.specs.Admissible.{Vouched}

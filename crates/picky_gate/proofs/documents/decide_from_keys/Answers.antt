@@ -1,5 +1,5 @@
 use Rattle.picky_contract.specs.Refusals.{named}
-use Rattle.picky_contract.proofs.Tables.{then_meets, step_refuses}
+use Rattle.picky_contract.specs.laws.Tables.{then_meets, step_refuses}
 use Rattle.picky_gate.specs.declared.documents.Document.TheVariants as document
 use Rattle.picky_gate.specs.Asked.{admit_of}
 use Rattle.picky_gate.specs.Documents.{keys_table, text_decision, keys_decision}

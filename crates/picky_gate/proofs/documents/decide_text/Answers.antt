@@ -1,4 +1,4 @@
-use Rattle.picky_contract.proofs.Tables.{named_refuses}
+use Rattle.picky_contract.specs.laws.Tables.{named_refuses}
 use Rattle.picky_key.specs.Records.{Signs}
 use Rattle.picky_jose.specs.declared.date.JwtDate.{JwtDate}
 use Rattle.std.proofs.Common.{IfSome, subst}

@@ -1,4 +1,4 @@
-use Rattle.picky_contract.proofs.Growing.{grows_stop}
+use Rattle.picky_contract.specs.laws.Growing.{grows_stop}
 use Rattle.picky_jwk.specs.Jwk.{jwk_view}
 use Rattle.picky_gate.specs.Ring.{EntryOf}
 use Rattle.picky_gate.specs.Seen.{named_entry}

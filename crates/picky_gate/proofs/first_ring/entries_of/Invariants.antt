@@ -1,6 +1,6 @@
 use Rattle.std.proofs.Common.{map, drop}
 use Rattle.std.specs.List.{AllZip}
-use Rattle.picky_contract.proofs.Growing.{Grows}
+use Rattle.picky_contract.specs.laws.Growing.{Grows}
 use Rattle.picky_jwk.specs.Jwk.{jwk_view, jwks_view}
 use Rattle.picky_gate.specs.Ring.{EntryOf}
 use Rattle.picky_gate.specs.Seen.{named_entry}
