@@ -1,14 +1,22 @@
 #!/usr/bin/env python3
-"""Writes crates/picky_aes/src/cases.rt: keys, blocks and what they encrypt to, as python's cryptography gives it.
+"""Prints rows of AES: keys, blocks and what they encrypt to, as python's cryptography gives it, both ways.
 
 The first case of each size is the standard's own example (FIPS 197, appendix C: the key 00 01 02 .., the block
-00 11 22 .. ff). The others are drawn from a generator with a fixed seed.
+00 11 22 .. ff), whose answer is compared with the standard's. The others are drawn from a generator with a fixed seed.
 
-Usage, at the top of the repository: scripts/picky_aes_cases.py > crates/picky_aes/src/cases.rt; then `rt fmt`.
+scripts/cipher-rows calls it.
 """
 import random
 
 from cryptography.hazmat.primitives.ciphers import Cipher, algorithms, modes
+
+from printed_rows import remark, row
+
+PUBLISHED = {
+    16: "69c4e0d86a7b0430d8cdb78070b4c55a",
+    24: "dda97ca4864cdfe06eaf70a0ec0d7191",
+    32: "8ea2b7ca516745bfeafc49904b496089",
+}
 
 
 def encrypted(key, block):
@@ -16,16 +24,22 @@ def encrypted(key, block):
     return encryptor.update(block) + encryptor.finalize()
 
 
-def row(data):
-    return "[" + ", ".join(f"0x{byte:02x}" for byte in data) + "]"
+def both_ways(name, key, block):
+    answer = encrypted(key, block)
+    row(f"{name} is encrypted", "aes.encrypt", key, block, gives=answer)
+    row(f"{name} is decrypted", "aes.decrypt", key, answer, gives=block)
+    return answer
 
 
-draw = random.Random(197)
-print("// Keys, blocks and what they encrypt to, as python's cryptography gives it: written by scripts/picky_aes_cases.py.")
-for size in (16, 24, 32):
-    cases = [(bytes(range(size)), bytes(17 * i for i in range(16)))]
-    cases += [(draw.randbytes(size), draw.randbytes(16)) for _ in range(5)]
-    print(f"pub const BY_{8 * size}: [([u8; {size}], [u8; 16], [u8; 16]); {len(cases)}] = [")
-    for key, block in cases:
-        print(f"    ({row(key)}, {row(block)}, {row(encrypted(key, block))}),")
-    print("];")
+def main():
+    draw = random.Random(197)
+    remark("AES: the examples of FIPS 197, appendix C, and drawn cases by python's cryptography (scripts/picky_aes_cases.py).")
+    for size in (16, 24, 32):
+        answer = both_ways(f"the standard's block under {size} bytes", bytes(range(size)), bytes(17 * i for i in range(16)))
+        assert answer.hex() == PUBLISHED[size]
+        for count in range(1, 6):
+            both_ways(f"drawn block {count} under {size} bytes", draw.randbytes(size), draw.randbytes(16))
+
+
+if __name__ == "__main__":
+    main()

@@ -1,6 +1,5 @@
 #!/usr/bin/env python3
-"""Writes the table of integers of crates/picky_asn1_bits and the table of object identifiers of
-crates/picky_asn1_oid to standard output, as Rattle source.
+"""Prints rows of integers and of object identifiers of crates/asn1_rows/stdout.
 
 The contents octets are those of `openssl asn1parse -genstr` (OpenSSL 3); the plain big-endian and padded
 two's complement bytes of a number are Python's `int.to_bytes`.
@@ -34,37 +33,39 @@ def contents(genstr):
         subprocess.run(["openssl", "asn1parse", "-genstr", genstr, "-noout", "-out", out.name], check=True)
         der = out.read()
     assert der[1] == len(der) - 2 < 128
-    return der[2:]
+    return der[2:].hex()
 
 
-def row(data):
-    return "&[" + ", ".join("0x%02x" % b for b in data) + "]"
+def truth(holds):
+    return "true" if holds else "false"
 
 
 def integers():
-    print("// Negative or not; two's complement bytes with redundant ones in front; contents by openssl asn1parse.")
-    print("const INTEGERS: [(bool, &[u8], &[u8]); %d] = [" % len(INTEGERS))
+    print("# By openssl asn1parse: contents of numbers, which shorten the two's complement bytes.")
     for n in INTEGERS:
-        padded = n.to_bytes(n.bit_length() // 8 + 3, "big", signed=True)
-        print("    // %d" % n)
-        print("    (%s, %s, %s)," % ("true" if n < 0 else "false", row(padded), row(contents("INTEGER:%d" % n))))
-    print("];")
-    print("// Big-endian bytes of a number that is at least zero; contents by openssl asn1parse.")
-    some = [n for n in INTEGERS if n >= 0]
-    print("const UNSIGNED: [(&[u8], &[u8]); %d] = [" % len(some))
-    for n in some:
-        plain = n.to_bytes(max(1, (n.bit_length() + 7) // 8), "big")
-        print("    // %d" % n)
-        print("    (%s, %s)," % (row(plain), row(contents("INTEGER:%d" % n))))
-    print("];")
+        padded = n.to_bytes(n.bit_length() // 8 + 3, "big", signed=True).hex()
+        octets = contents("INTEGER:%d" % n)
+        print("%d in too many bytes is shortened: integer.from_bytes_be_signed %s => %s" % (n, padded, octets))
+        print("the contents of %d are its signed bytes: integer.as_signed_bytes_be %s => %s" % (n, octets, octets))
+        print("whether %d is negative: integer.is_negative %s => %s" % (n, octets, truth(n < 0)))
+        print("whether %d is at least zero: integer.is_positive %s => %s" % (n, octets, truth(n >= 0)))
+    print("# By openssl asn1parse: contents of numbers that are given by their big-endian bytes.")
+    for n in INTEGERS:
+        if n >= 0:
+            plain = n.to_bytes(max(1, (n.bit_length() + 7) // 8), "big").hex()
+            octets = contents("INTEGER:%d" % n)
+            print("%d of its big-endian bytes: integer.from_bytes_be_unsigned %s => %s" % (n, plain, octets))
+            print("the big-endian bytes of %d: integer.as_unsigned_bytes_be %s => %s" % (n, octets, plain))
 
 
 def identifiers():
-    print("// Text; contents by openssl asn1parse.")
-    print("const IDENTIFIERS: [(&str, &[u8]); %d] = [" % len(IDENTIFIERS))
+    print("# By openssl asn1parse: contents of identifiers.")
     for text in IDENTIFIERS:
-        print('    ("%s", %s),' % (text, row(contents("OID:" + text))))
-    print("];")
+        octets = contents("OID:" + text)
+        print("the contents of %s: oid.from_text %s => %s" % (text, text, octets))
+        print("%s is read from its contents: oid.from_contents %s => %s" % (text, octets, text))
+        print("%s has a copy: oid.copy %s => %s" % (text, octets, octets))
+        print("%s is the same by text and by contents: oid.is_that_of %s %s => true" % (text, octets, text))
 
 
 if __name__ == "__main__":

@@ -1,9 +1,9 @@
 #!/usr/bin/env python3
-"""Writes the table of dates of crates/picky_asn1_date/src/tests.rt.
+"""Prints rows of dates of crates/asn1_rows/stdout.
 
-Each text is made by `openssl asn1parse -genstr UTCTIME:TEXT` or `GENTIME:TEXT` and read back by
-`openssl asn1parse`; the six numbers come from `openssl x509 -startdate` (which applies RFC 5280,
-4.1.2.5.1, to two-digit years) on a certificate with that date, else from the digits by Python's strptime.
+Each text is made by `openssl asn1parse -genstr UTCTIME:TEXT` or `GENTIME:TEXT`, which gives the same text; the six
+numbers come from `openssl x509 -startdate` (which applies RFC 5280, 4.1.2.5.1, to two-digit years) on a certificate
+with that date, else from the digits by Python's strptime.
 """
 import datetime
 import subprocess
@@ -35,15 +35,18 @@ def by_certificate(text):
     return datetime.datetime.strptime(shown, "notBefore=%b %d %H:%M:%S %Y GMT")
 
 
-def row(text, d):
-    print('    ("%s", [%d, %d, %d, %d, %d, %d]),' % (text, d.year, d.month, d.day, d.hour, d.minute, d.second))
+def rows(form, text, d):
+    date = "%d %d %d %d %d %d" % (d.year, d.month, d.day, d.hour, d.minute, d.second)
+    print("%s is read: date.read_text %s %s => %s" % (text, form, text, date))
+    print("%s is written: date.write_text %s %s => %s" % (text, form, date, text))
+    print("%s has a copy: date.copy %s %s => %s" % (text, form, text, text))
 
 
-print("// UTCTime")
+print("# UTCTime, read by openssl x509 -startdate, which applies RFC 5280, 4.1.2.5.1.")
 for text in UTC:
     assert contents("UTCTIME", text) == text
-    row(text, by_certificate(text))
-print("// GeneralizedTime")
+    rows("utc", text, by_certificate(text))
+print("# GeneralizedTime, which openssl asn1parse takes, read by Python's strptime.")
 for text in GENERALIZED:
     assert contents("GENTIME", text) == text
-    row(text, datetime.datetime.strptime(text, "%Y%m%d%H%M%SZ"))
+    rows("generalized", text, datetime.datetime.strptime(text, "%Y%m%d%H%M%SZ"))

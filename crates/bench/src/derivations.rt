@@ -1,13 +1,8 @@
-// The derivations: cases, one key of very many iterations, and how fast HMAC and PBKDF2 are.
-use crate::cases::{Fields, text_of};
-use crate::checksums::counted;
-use crate::timing::{micros_since, report};
-use anyhow::{Context, Result, bail};
+// One key of very many iterations, and how fast HMAC and PBKDF2 are.
+use crate::timing::{MEBIBYTE, counted, micros_since, report};
+use anyhow::Result;
 use picky_cipher::{Pkcs12HashAlgorithm, hmac, pbkdf2};
-use std::alloc::Global;
 use std::time::Instant;
-
-const MEBIBYTE: usize = 1 << 20;
 
 const ITERATIONS: u32 = 1 << 18;
 
@@ -34,47 +29,4 @@ pub(crate) fn time(rt: &HostRuntime) -> Result<()> {
     }
     report(rt, "hmac-sha256", 32 * MEBIBYTE as u64, &start)?;
     Ok(())
-}
-
-fn hash_of(word: &str) -> Result<Pkcs12HashAlgorithm> {
-    match word {
-        "sha1" => Ok(Pkcs12HashAlgorithm::Sha1),
-        "sha224" => Ok(Pkcs12HashAlgorithm::Sha224),
-        "sha256" => Ok(Pkcs12HashAlgorithm::Sha256),
-        "sha384" => Ok(Pkcs12HashAlgorithm::Sha384),
-        "sha512" => Ok(Pkcs12HashAlgorithm::Sha512),
-        other => bail!("{other:?} is no hash"),
-    }
-}
-
-// The HMAC of a text.
-pub(crate) fn answer_hmac(alloc: Global, fields: &mut Fields<'_>) -> Result<String> {
-    let hash = hash_of(fields.next())?;
-    let key = fields.bytes(alloc)?;
-    let text = fields.bytes(alloc)?;
-    text_of(
-        alloc,
-        hmac(alloc, hash, key.as_slice(), text.as_slice())?.as_slice(),
-    )
-}
-
-// The key of a password.
-pub(crate) fn answer_pbkdf2(alloc: Global, fields: &mut Fields<'_>) -> Result<String> {
-    let hash = hash_of(fields.next())?;
-    let password = fields.bytes(alloc)?;
-    let salt = fields.bytes(alloc)?;
-    let iterations = fields.next().parse::<u32>().ok().context("iterations")?;
-    let size = fields.next().parse::<usize>().ok().context("a size")?;
-    if iterations == 0 || size > 1024 {
-        bail!("{iterations} iterations, {size} bytes");
-    }
-    let key = pbkdf2(
-        alloc,
-        hash,
-        password.as_slice(),
-        salt.as_slice(),
-        iterations,
-        size,
-    )?;
-    text_of(alloc, key.as_slice())
 }

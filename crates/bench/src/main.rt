@@ -1,16 +1,12 @@
-//! Answers, checksums and speed of the ciphers, and the time that DER takes.
+//! How fast the ciphers are, and how long DER takes.
 //!
-//! With no word it prints checksums of long runs and then answers the cases of its standard input; with the word
-//! `cases` it answers the cases alone; with the word `time` it prints how fast each call is; with the word `iterate` it
-//! prints a key of 16,777,216 iterations of PBKDF2; with the word `der` it prints how long DER takes, by size.
+//! With the word `time` it prints how fast each call of the ciphers is; with the word `iterate` it prints a key of
+//! 16,777,216 iterations of PBKDF2; with the word `der` it prints how long DER takes, by size. With no word it prints
+//! these words.
 #![tactic(auto)]
 
-mod calls;
-mod cases;
-mod checksums;
 mod der;
 mod derivations;
-mod modes;
 mod timing;
 
 use anyhow::{Result, bail};
@@ -21,15 +17,14 @@ fn main(rt: HostRuntime) -> Result<()> {
     let _program = words.next();
     match words.next() {
         None => {
-            checksums::print(&rt)?;
-            cases::answer_all(&rt)
+            println!(rt; "bench time | iterate | der")?;
+            Ok(())
         }
         Some(word) => match word.as_str() {
-            "cases" => cases::answer_all(&rt),
             "time" => timing::print(&rt),
             "iterate" => derivations::print_large(&rt),
             "der" => der::print(&rt),
-            other => bail!("{other:?} is neither `cases`, `time`, `iterate` nor `der`"),
+            other => bail!("{other:?} is neither `time`, `iterate` nor `der`"),
         },
     }
 }

@@ -5,15 +5,11 @@
 //! time that depends on secrets. No call takes memory.
 #![tactic(auto)]
 
-#[cfg(test)]
-mod cases;
 mod cipher;
 mod key_schedule;
 pub mod laws;
 mod steps;
 mod tables;
-#[cfg(test)]
-mod tests;
 mod undo;
 
 pub use cipher::Aes;

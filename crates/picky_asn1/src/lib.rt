@@ -20,6 +20,4 @@ pub mod laws;
 pub mod oid;
 pub mod restricted_string;
 pub mod tag;
-#[cfg(test)]
-mod tests;
 pub mod wrapper;

@@ -15,6 +15,3 @@ mod values;
 pub use bit_string::BitString;
 pub use integer::IntegerAsn1;
 pub use octet_string::OctetStringAsn1;
-
-#[cfg(test)]
-mod tests;

@@ -3,7 +3,7 @@ use Rattle.std.proofs.Common.{◌≡◌, ◌≢◌, ◌↔◌, inl, inr, ℕ, �
 use Rattle.std.specs.Option.{ok_or}
 use Rattle.std.proofs.lemmas.List.Elements.{All-nil, All-cons}
 use Rattle.picky_contract.specs.Refusals.{Meets, OkOrMemory, the, need}
-use Rattle.picky_contract.proofs.Tables.{Exact, the_exact, need_exact, done_exact, then_exact, found, complete}
+use Rattle.picky_contract.specs.laws.Tables.{Exact, the_exact, need_exact, done_exact, then_exact, found, complete}
 use Rattle.picky_asn1_date.specs.Moment.{Moment, IsMoment}
 use Rattle.picky_asn1_date.specs.DateText.{digits_and_z, utc_text, IsUtcYear, generalized_text, IsGeneralizedYear}
 use Rattle.picky_asn1_date.specs.Faults.{year_out_of_range, bad_date_text, no_such_date, any_fault, date_fault}

@@ -17,6 +17,3 @@ mod value;
 pub use date::{Date, GeneralizedTime, UTCTime};
 pub use error::DateError;
 pub use repr::{GeneralizedTimeRepr, TimeRepr, UTCTimeRepr};
-
-#[cfg(test)]
-mod tests;

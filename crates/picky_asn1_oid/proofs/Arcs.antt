@@ -7,6 +7,7 @@ use Rattle.std.proofs.lemmas.Bool.{cases_lt, false≢true}
 use Rattle.picky_asn1_oid.specs.Arcs.{FitsArc, IsArcs, base128, subidentifiers}
 use Rattle.picky_asn1_oid.specs.Numbers.{AreNumbersOf, arcs_from}
 use Rattle.picky_asn1_oid.specs.Fault.{IsContentsOf}
+pub use Rattle.picky_asn1_oid.specs.laws.Arcs.{arcs_from-subidentifiers, subidentifiers_fit}
 
 -- ---- which numbers are arcs
 
@@ -26,21 +27,6 @@ arcs_two (a ∷ b ∷ others) two is fits =
     ((λ below. (omega arith, (λ low. absurd (omega arith)), omega arith, others_fit others (λ i. fits (suc (suc i))))), (λ arcs. let f = arcs.2 in omega arith))
 
 -- ---- back and forth
-
-pub arcs_from-subidentifiers : (arcs : List ℕ) → IsArcs arcs → arcs_from (subidentifiers arcs) ≡ arcs
-arcs_from-subidentifiers [] arcs = absurd arcs
-arcs_from-subidentifiers (a ∷ []) arcs = absurd arcs
-arcs_from-subidentifiers (a ∷ b ∷ others) arcs =
-    let first : min ((40 * a + b) / 40) 2 ≡ a = head a b arcs.0 arcs.1 in
-    ap (λ (k : ℕ). k ∷ (40 * a + b - 40 * k) ∷ others) first ∙ ap (λ (k : ℕ). a ∷ k ∷ others) (omega arith)
-  where
-    head : (a b : ℕ) → a ≤ 2 → (a < 2 → b < 40) → min ((40 * a + b) / 40) 2 ≡ a
-    head a b le low = elim (cases_lt a 2) [ inl lt ↦ let small = low lt in omega arith | inr ge ↦ omega arith ]
-
-pub subidentifiers_fit : (arcs : List ℕ) → IsArcs arcs → All FitsArc (subidentifiers arcs)
-subidentifiers_fit [] arcs = absurd arcs
-subidentifiers_fit (a ∷ []) arcs = absurd arcs
-subidentifiers_fit (a ∷ b ∷ others) arcs = All-cons FitsArc (40 * a + b) others arcs.2 arcs.3
 
 subidentifiers_some : (arcs : List ℕ) → IsArcs arcs → subidentifiers arcs ≡ [] → ⊥
 subidentifiers_some [] arcs none = arcs

@@ -11,6 +11,3 @@ mod oid;
 mod text;
 
 pub use oid::{ObjectIdentifier, OidError};
-
-#[cfg(test)]
-mod tests;

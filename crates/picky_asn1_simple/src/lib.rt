@@ -4,6 +4,7 @@
 
 mod bit_string;
 mod kinds;
+pub mod laws;
 mod object_identifier;
 mod string;
 mod time;

@@ -4,7 +4,7 @@ ghost use Rattle.std.specs.Bool.{Decides};
 ghost use Rattle.std.proofs.Common.{arith};
 ghost use Rattle.picky_asn1_date.specs.Moment.{Moment, IsMoment};
 ghost use Rattle.picky_der.specs.declared.fault.DerError.TheVariants.{OutOfMemory, BadValue};
-ghost use Rattle.picky_der.specs.Reading.{Answers};
+ghost use Rattle.picky_der.specs.Reading.{IsOfBytes, Answers, Reads};
 ghost use Rattle.picky_der.specs.Primitive.{primitive_form, primitive_at};
 ghost use Rattle.picky_asn1_simple.specs.Times.{time_of, time_contents, utc_numbers, is_utc_year, generalized_numbers, is_generalized_year};
 ghost use Rattle.picky_asn1_simple.specs.laws.Times.{utc_decides, utc_reads, generalized_decides, generalized_reads, time_readable, time_writable, time_tagged};
@@ -143,7 +143,8 @@ impl<K: Asn1Type, TR: DecidedTime> DerForm for DateAsn1<K, TR> {
 
 // The date whose text the octets are.
 fn date_from<TR: DecidedTime>(octets: &[u8]) -> Result<Date<TR>, DerError>
-    ensures { Answers (λ date. date) result (time_of TR.is_year TR.text TR.numbers octets.now) }
+    ensures answers { Answers (λ date. date) result (time_of TR.is_year TR.text TR.numbers octets.now) }
+    ensures no_memory { IfErr result IsOfBytes }
 {
     match Date::<TR>::read_text(octets) {
         Ok(date) => Ok(date),
@@ -171,7 +172,11 @@ impl<K: Asn1Type, TR: DecidedTime> DerRead for DateAsn1<K, TR> {
     }
 
     #[tactic(auto, unfolding(picky_der::specs::Primitive::primitive_at))]
-    fn read_der(_alloc: Global, reader: &mut DerReader<'_>) -> Result<DateAsn1<K, TR>, DerError> {
+    /// Takes no memory.
+    fn read_der(_alloc: Global, reader: &mut DerReader<'_>) -> Result<DateAsn1<K, TR>, DerError>
+        ensures reads { Reads (λ wrapped. wrapped.date) (primitive_at K.TAG (time_of TR.is_year TR.text TR.numbers)) reader.old result reader.new }
+        ensures no_memory { IfErr result IsOfBytes }
+    {
         let mut ahead = reader.fork();
         let date = date_from::<TR>(ahead.read_value(K::TAG)?)?;
         *reader = ahead;

@@ -55,7 +55,7 @@ encoding_text Primitive = codes "PRIMITIVE"
 encoding_text Constructed = codes "CONSTRUCTED"
 
 -- the name of a universal type, by the whole byte
-abbrev pub name_of : ℕ → Option (List ℕ)
+unfoldable pub name_of : ℕ → Option (List ℕ)
 name_of byte =
     if byte == 1 then Some (codes "BOOLEAN")
     else (if byte == 2 then Some (codes "INTEGER")
@@ -80,7 +80,7 @@ name_of byte =
     else None)))))))))))))))))))
 
 -- what `{}` prints
-abbrev pub tag_text : ℕ → List ℕ
+unfoldable pub tag_text : ℕ → List ℕ
 tag_text byte =
     unwrap_or (name_of byte) (class_text (class_of byte) ++ codes "(" ++ hex_byte (number_of byte) ++ codes ") " ++ encoding_text (encoding_of byte))
 

@@ -5,9 +5,9 @@ ghost use Rattle.picky_asn1_tag.specs.Hex.{digit_of, hex_byte, hex_bytes, hex_te
 
 use std::fmt;
 
-/// A byte that prints as two hexadecimal digits in upper case.
-#[derive(Clone, Copy, Debug)]
-pub struct HexByte(pub u8);
+// A byte that prints as two hexadecimal digits in upper case.
+#[derive(Clone, Copy)]
+pub(crate) struct HexByte(pub(crate) u8);
 
 impl fmt::Display for HexByte {
     ghost output = { λ h. Some (hex_byte h.0) };

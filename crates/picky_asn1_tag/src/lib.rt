@@ -3,7 +3,7 @@
 //! - [`Tag`], [`TagClass`], [`Encoding`]: one identifier octet and its parts.
 //! - [`Asn1Type`]: the tag and the name of a type.
 //! - [`Asn1Value`], [`CopyIn`], [`Empty`]: what a value means, its copy, and a type's default.
-//! - [`HexByte`], [`HexBytes`]: bytes in hexadecimal.
+//! - [`HexBytes`]: bytes in hexadecimal.
 //! - [`laws`]: what is proved of tags beside their calls.
 #![tactic(auto)]
 
@@ -12,9 +12,6 @@ pub mod laws;
 mod tag;
 mod value;
 
-pub use hex::{HexByte, HexBytes};
+pub use hex::HexBytes;
 pub use tag::{Encoding, Tag, TagClass};
 pub use value::{Asn1Type, Asn1Value, CopyIn, Empty};
-
-#[cfg(test)]
-mod tests;

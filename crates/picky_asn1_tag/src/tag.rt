@@ -222,6 +222,7 @@ impl Tag {
     }
 
     /// The name of the universal type with this tag, if it is one of the constants.
+    #[tactic(auto, unfolding(crate::specs::Tag::name_of))]
     fn name(self) -> Option<&'static str>
         ensures { option_map (λ s. s.now) result ≡ name_of self.0 }
     {
@@ -262,6 +263,7 @@ impl From<u8> for Tag {
 impl fmt::Display for Tag {
     ghost output = { λ t. Some (tag_text t.0) };
 
+    #[tactic(auto, unfolding(crate::specs::Tag::tag_text))]
     fn fmt<W: fmt::Write>(&self, f: &mut fmt::Formatter<W>) -> fmt::Result {
         match self.name() {
             Some(name) => f.write_str(name),

@@ -22,6 +22,3 @@ pub use error::CharSetError;
 pub use restricted_string::{
     BmpString, Ia5String, NumericString, PrintableString, RestrictedString, Utf8String,
 };
-
-#[cfg(test)]
-mod tests;

@@ -1,6 +1,6 @@
 // A tag with no contents.
-ghost use Rattle.std.specs.Prelude.{◌≡◌, OnOk};
-ghost use Rattle.picky_der.specs.Reading.{Answers};
+ghost use Rattle.std.specs.Prelude.{◌≡◌, OnOk, IfErr};
+ghost use Rattle.picky_der.specs.Reading.{IsOfBytes, Answers, Reads};
 ghost use Rattle.picky_der.specs.Primitive.{primitive_form, primitive_at};
 ghost use Rattle.picky_der.specs.Plain.{null_of, null_contents};
 ghost use Rattle.picky_asn1_wrapper.specs.laws.Headers.{header_readable, header_writable, header_tagged};
@@ -59,7 +59,8 @@ impl<T: Asn1Type> DerForm for HeaderOnly<T> {
 }
 
 fn nothing_from(octets: &[u8]) -> Result<(), DerError>
-    ensures { Answers (λ x. x) result (null_of octets.now) }
+    ensures answers { Answers (λ x. x) result (null_of octets.now) }
+    ensures no_memory { IfErr result IsOfBytes }
 {
     match octets {
         [] => Ok(()),
@@ -73,7 +74,11 @@ impl<T: Asn1Type> DerRead for HeaderOnly<T> {
     }
 
     #[tactic(auto, unfolding(picky_der::specs::Primitive::primitive_at))]
-    fn read_der(_alloc: Global, reader: &mut DerReader<'_>) -> Result<HeaderOnly<T>, DerError> {
+    /// Takes no memory.
+    fn read_der(_alloc: Global, reader: &mut DerReader<'_>) -> Result<HeaderOnly<T>, DerError>
+        ensures reads { Reads (λ _. tt) (primitive_at T.TAG null_of) reader.old result reader.new }
+        ensures no_memory { IfErr result IsOfBytes }
+    {
         let mut ahead = reader.fork();
         nothing_from(ahead.read_value(T::TAG)?)?;
         *reader = ahead;

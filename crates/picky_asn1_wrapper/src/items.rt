@@ -1,4 +1,5 @@
-// Values of one type, one after another.
+// Values of one type, one after another. After a refusal the reader stands, and the vector ends, somewhere among them: the
+// callers hand in ones of their own.
 ghost use Rattle.std.specs.Prelude.{◌≡◌, [], ◌⊎◌, length, map, OnOk, IfOk, IfErr};
 ghost use Rattle.picky_der.specs.declared.fault.DerError.TheVariants.{OutOfMemory, BadValue};
 ghost use Rattle.picky_der.specs.Reading.{Gives};
@@ -9,7 +10,7 @@ use picky_der::{DerError, DerRead, DerReader, DerWrite};
 use std::alloc::{AllocError, Global};
 
 /// Reads values up to the end of the reader.
-pub fn read_items<T: DerRead + Drop>(
+pub(crate) fn read_items<T: DerRead + Drop>(
     alloc: Global,
     reader: &mut DerReader<'_>,
 ) -> Result<Vec<T>, DerError>
@@ -23,7 +24,7 @@ pub fn read_items<T: DerRead + Drop>(
 }
 
 /// Writes values one after another into an empty vector.
-pub fn write_items<T: DerWrite>(
+pub(crate) fn write_items<T: DerWrite>(
     alloc: Global,
     items: &[T],
     out: &mut Vec<u8>,
@@ -39,7 +40,7 @@ pub fn write_items<T: DerWrite>(
 }
 
 /// A copy of each value, in order.
-pub fn copy_items<T: CopyIn + Drop>(alloc: Global, items: &[T]) -> Result<Vec<T>, AllocError>
+pub(crate) fn copy_items<T: CopyIn + Drop>(alloc: Global, items: &[T]) -> Result<Vec<T>, AllocError>
     ensures { IfOk result (λ copies. map T.meaning copies.items ≡ map T.meaning items.now) }
 {
     let mut copies = Vec::new(alloc);

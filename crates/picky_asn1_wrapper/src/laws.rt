@@ -2,6 +2,7 @@
 ghost use Rattle.std.specs.Prelude.{◌≡◌, ◌↔◌, Some, IsTrue, map};
 ghost use Rattle.std.specs.Cmp.Lexicographic.{pointwise};
 ghost use Rattle.std.specs.declared.cmp.Ordering.TheVariants.{Equal};
+ghost use Rattle.picky_der.specs.Form.{IsWrittenInForm};
 
 use crate::container::{BitStringAsn1Container, OctetStringAsn1Container};
 use crate::equal_meaning::EqualMeaning;
@@ -11,7 +12,7 @@ use crate::implicit::ImplicitContextTag;
 use crate::lists::{Asn1SequenceOf, Asn1SetOf};
 use crate::optional::Optional;
 use picky_asn1_tag::{Asn1Type, Empty};
-use picky_der::DerRead;
+use picky_der::{DerForm, DerRead, DerTagged, DerWrite};
 use std::hash::Hash;
 
 /// Values of a type with `EqualMeaning` are equal exactly where they mean the same.
@@ -150,4 +151,23 @@ pub fn equal_implicit_tags_mean_the_same<const N: u8, T: EqualMeaning>(
     other: &ImplicitContextTag<N, T>,
 )
     ensures { IsTrue (⟦<ImplicitContextTag<N, T> as PartialEq>⟧.eq tagged.now other.now) ↔ (T.meaning tagged.now.0 ≡ T.meaning other.now.0) }
+{}
+
+/// Where each value that a type writes is in form, each that is written of its lists and containers is.
+pub fn written_wrappers_are_in_form<T: DerWrite>()
+    ensures sequence { IsWrittenInForm T.form → IsWrittenInForm ⟦<Asn1SequenceOf<T> as DerForm>⟧.form }
+    ensures set { IsWrittenInForm T.form → IsWrittenInForm ⟦<Asn1SetOf<T> as DerForm>⟧.form }
+    ensures octets { IsWrittenInForm T.form → IsWrittenInForm ⟦<OctetStringAsn1Container<T> as DerForm>⟧.form }
+    ensures bits { IsWrittenInForm T.form → IsWrittenInForm ⟦<BitStringAsn1Container<T> as DerForm>⟧.form }
+{}
+
+/// The same of its tags.
+pub fn written_tags_are_in_form<const N: u8, T: DerTagged>()
+    ensures explicit { IsWrittenInForm T.form → IsWrittenInForm ⟦<ExplicitContextTag<N, T> as DerForm>⟧.form }
+    ensures implicit { IsWrittenInForm T.form → IsWrittenInForm ⟦<ImplicitContextTag<N, T> as DerForm>⟧.form }
+{}
+
+/// A header that is written is in form.
+pub fn written_headers_are_in_form<T: Asn1Type>()
+    ensures { IsWrittenInForm ⟦<HeaderOnly<T> as DerForm>⟧.form }
 {}

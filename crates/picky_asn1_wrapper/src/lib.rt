@@ -27,7 +27,6 @@ pub use equal_meaning::EqualMeaning;
 pub use explicit::ExplicitContextTag;
 pub use header_only::HeaderOnly;
 pub use implicit::ImplicitContextTag;
-pub use items::{read_items, write_items};
 pub use lists::{Asn1SequenceOf, Asn1SetOf};
 pub use optional::Optional;
 pub use picky_asn1_simple::{

@@ -2,7 +2,7 @@
 use Rattle.std.specs.Prelude.{◌≡◌, ◌≢◌, ℕ, ◌%◌, ◌<◌, ◌^◌, ◌==◌, Bool, true, List, [], ◌∷◌, ◌++◌, length, Result, Ok, Err, ◌⊎◌}
 use Rattle.picky_asn1_tag.specs.declared.tag.Tag.{Tag}
 use Rattle.picky_der.specs.declared.fault.DerError.{DerError}
-use Rattle.picky_der.specs.declared.fault.DerError.TheVariants.{BadValue, TooDeep, OutOfMemory}
+use Rattle.picky_der.specs.declared.fault.DerError.TheVariants.{Truncated, BadValue, TooDeep, OutOfMemory}
 use Rattle.picky_der.specs.Length.{TailIsBytes, value_of}
 use Rattle.picky_der.specs.Reading.{◌>>=◌, end_at}
 
@@ -69,6 +69,10 @@ pub record Readable {X : Type 0} (f : Form X) : Type 0 where
   pub shorter : (depth : ℕ) (bytes : List ℕ) (x : X) (rest : List ℕ) → f.reading depth bytes ≡ Ok (x, rest) → length rest < length bytes
   -- `begins` holds of the first byte of every spelling
   pub first : (s : List ℕ) (x : X) → f.in_form x → f.Spells s x → BeginsBy f.begins s
+  -- a proper prefix of a spelling lacks a byte
+  pub cut : (depth : ℕ) (front back : List ℕ) (x : X) → f.in_form x → f.Spells (front ++ back) x → back ≢ [] → f.reading depth front ≡ Err Truncated
+  -- any other fault is the fault whatever bytes follow
+  pub stays : (depth : ℕ) (bytes more : List ℕ) (e : DerError) → e ≢ Truncated → f.reading depth bytes ≡ Err e → f.reading depth (bytes ++ more) ≡ Err e
 
 -- The laws of writing a type.
 pub record Writable {X : Type 0} (f : Form X) : Type 0 where
@@ -91,6 +95,26 @@ pub record Tagged {X : Type 0} (tag : Tag) (f : Form X) : Type 0 where
   pub first : (s : List ℕ) (x : X) → f.in_form x → f.Spells s x → BeginsBy (λ b. b == tag.0) s
   -- no other tag begins one
   pub no_other : (b : ℕ) → f.begins b ≡ (b == tag.0)
+
+-- ---- laws by name
+
+-- What is written of a value in form is a spelling of it, and one value; where it stands, it is read back, or reading stops at the limit of depth.
+pub record ReadsBack {X : Type 0} (f : Form X) : Type 0 where
+  pub spelled : (s : List ℕ) (x : X) → f.in_form x → f.Encodes s x → f.Spells s x
+  pub one_value : (s : List ℕ) (x : X) → f.Encodes s x → IsOneValue s
+  pub read : (depth : ℕ) (s rest : List ℕ) (x : X) → f.in_form x → f.Encodes s x → GivesOrTooDeep (f.reading depth (s ++ rest)) (x, rest)
+
+-- each value that is written is in form
+abbrev pub IsWrittenInForm : {X : Type 0} → Form X → Type 0
+IsWrittenInForm {X = X} f = (s : List ℕ) (x : X) → f.Encodes s x → f.in_form x
+
+-- a proper prefix of a spelling lacks a byte
+abbrev pub CutIsTruncated : {X : Type 0} → Form X → Type 0
+CutIsTruncated {X = X} f = (depth : ℕ) (front back : List ℕ) (x : X) → f.in_form x → f.Spells (front ++ back) x → back ≢ [] → f.reading depth front ≡ Err Truncated
+
+-- any other fault is the fault whatever bytes follow
+abbrev pub FaultsStay : {X : Type 0} → Form X → Type 0
+FaultsStay f = (depth : ℕ) (bytes more : List ℕ) (e : DerError) → e ≢ Truncated → f.reading depth bytes ≡ Err e → f.reading depth (bytes ++ more) ≡ Err e
 
 -- ---- what calls answer
 

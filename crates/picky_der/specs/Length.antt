@@ -1,7 +1,8 @@
 -- Lengths of contents: the definite form in its fewest bytes (X.690 sections 8.1.3.3 to 8.1.3.5 and 10.1).
-use Rattle.std.specs.Prelude.{◌≡◌, ◌≢◌, ℕ, zero, suc, ◌+◌, ◌*◌, ◌<◌, ◌≤◌, ◌⊎◌, List, [], ◌∷◌, ◌++◌, length, slice_index, if◌then◌else◌, nat_lt}
+use Rattle.std.specs.Prelude.{◌≡◌, ◌≢◌, ℕ, zero, suc, ◌+◌, ◌<◌, ◌≤◌, ◌⊎◌, List, [], ◌∷◌, ◌++◌, length, slice_index, if◌then◌else◌, nat_lt}
 use Rattle.std.proofs.Common.{get_or}
 use Rattle.std.specs.Int.{w64, to_be_bytes}
+use Rattle.picky_asn1_bits.specs.Integer.{unsigned_of}
 
 -- each number is one of a byte
 abbrev pub IsBytes : List ℕ → Type 0
@@ -11,15 +12,6 @@ IsBytes bytes = (i : ℕ) → get_or bytes i 0 < 256
 abbrev pub TailIsBytes : List ℕ → Type 0
 TailIsBytes [] = Unit {0}
 TailIsBytes (b ∷ bs) = IsBytes bs
-
--- the number of which these are the last bytes, where `high` stands for those in front
-abbrev pub number_after : ℕ → List ℕ → ℕ
-number_after high [] = high
-number_after high (b ∷ bs) = number_after (high * 256 + b) bs
-
--- the number that bytes stand for, the most significant first
-abbrev pub number_of : List ℕ → ℕ
-number_of bytes = number_after 0 bytes
 
 -- the short form: one byte below 128
 pub record IsShortForm (bytes : List ℕ) (n : ℕ) : Type 0 where
@@ -35,7 +27,7 @@ pub record IsLongForm (bytes : List ℕ) (n : ℕ) : Type 0 where
   pub some : 1 ≤ length length_bytes
   pub few : length length_bytes ≤ 8
   pub first : slice_index length_bytes 0 ≢ 0
-  pub number : number_of length_bytes ≡ n
+  pub number : unsigned_of length_bytes ≡ n
   pub not_short : 128 ≤ n
 
 -- the bytes spell the length

@@ -1,8 +1,9 @@
 -- The contents octets of an INTEGER that is at least zero (X.690 sections 8.3.1 to 8.3.3), and which of them a type reads.
 use Rattle.std.specs.Prelude.{◌≡◌, ℕ, zero, suc, ◌/◌, ◌%◌, ◌==◌, ◌<◌, ◌≤◌, ◌||◌, ◌&&◌, Bool, false, if◌then◌else◌, nat_lt, nat_le, List, [], ◌∷◌, ◌++◌, length, slice_index, Result, Ok, Err}
+use Rattle.picky_asn1_bits.specs.Integer.{unsigned_of}
 use Rattle.picky_der.specs.declared.fault.DerError.{DerError}
 use Rattle.picky_der.specs.declared.fault.DerError.TheVariants.{BadValue}
-use Rattle.picky_der.specs.Length.{IsBytes, number_of}
+use Rattle.picky_der.specs.Length.{IsBytes}
 use Rattle.picky_der.specs.Primitive.{Contents}
 
 -- The octets are the two's complement of the number, in the fewest.
@@ -14,7 +15,7 @@ pub record IsNatural (octets : List ℕ) (n : ℕ) : Type 0 where
   pub sign : slice_index octets 0 < 128
   -- the first nine bits aren't all zero
   pub fewest : 1 < length octets → slice_index octets 0 ≡ 0 → 128 ≤ slice_index octets 1
-  pub number : number_of octets ≡ n
+  pub number : unsigned_of octets ≡ n
 
 -- the first octet is zero and could be left out
 abbrev pub redundant : ℕ → List ℕ → Bool
@@ -26,7 +27,7 @@ abbrev pub natural_of : ℕ → List ℕ → Result ℕ DerError
 natural_of limit [] = Err BadValue
 natural_of limit (b ∷ bs) =
     if nat_le 128 b || redundant b bs then Err BadValue
-    else if nat_lt (number_of (b ∷ bs)) limit then Ok (number_of (b ∷ bs)) else Err BadValue
+    else if nat_lt (unsigned_of (b ∷ bs)) limit then Ok (unsigned_of (b ∷ bs)) else Err BadValue
 
 -- one octet of a number below 128, else the octets of its 256th part and one more; `most` bounds how often it is divided
 abbrev pub octets_within : ℕ → ℕ → List ℕ

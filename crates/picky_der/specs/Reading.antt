@@ -1,10 +1,10 @@
 -- What reading gives: a value and the bytes after it, or the fault at the first bad place (X.690 sections 8.1.2, 8.1.3 and 10.1; the order of faults is own).
 use Rattle.std.specs.Prelude.{◌≡◌, ℕ, ◌-◌, ◌%◌, ◌==◌, ◌||◌, List, [], ◌∷◌, length, take, drop, if◌then◌else◌, nat_lt, Result, Ok, Err, slice_index}
+use Rattle.picky_asn1_bits.specs.Integer.{unsigned_of}
 use Rattle.picky_asn1_tag.specs.declared.tag.Tag.{Tag}
 use Rattle.picky_der.specs.declared.fault.DerError.{DerError}
 use Rattle.picky_der.specs.declared.fault.DerError.TheVariants.{Truncated, WrongTag, BadLength, BadValue, TrailingBytes, TooDeep, OutOfMemory}
 use Rattle.picky_der.specs.View.{Place}
-use Rattle.picky_der.specs.Length.{number_of}
 
 -- one step of reading, and then the next; the first fault is the fault
 infixl 10 ◌>>=◌
@@ -19,8 +19,8 @@ unfoldable pub long_at : ℕ → List ℕ → Result (ℕ × List ℕ) DerError
 long_at k bytes =
     if nat_lt (length bytes) k then Err Truncated
     else if k == 0 || nat_lt 8 k then Err BadLength
-    else if slice_index (take k bytes) 0 == 0 || nat_lt (number_of (take k bytes)) 128 then Err BadLength
-    else Ok (number_of (take k bytes), drop k bytes)
+    else if slice_index (take k bytes) 0 == 0 || nat_lt (unsigned_of (take k bytes)) 128 then Err BadLength
+    else Ok (unsigned_of (take k bytes), drop k bytes)
 
 -- a length
 unfoldable pub length_at : List ℕ → Result (ℕ × List ℕ) DerError
@@ -77,6 +77,11 @@ tag_at [] = Err Truncated
 tag_at (b ∷ bs) = Ok b
 
 -- ---- what calls answer
+
+-- The fault is one of the bytes, and not want of memory.
+abbrev pub IsOfBytes : DerError → Type 0
+IsOfBytes OutOfMemory = ⊥
+IsOfBytes _ = Unit {0}
 
 -- A call that takes no memory answered just what reading gives; `view` says how its value is seen.
 abbrev pub Answers : {X Y : Type 0} → (X → Y) → Result X DerError → Result Y DerError → Type 0

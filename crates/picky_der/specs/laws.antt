@@ -5,6 +5,7 @@ pub mod Identifier
 pub mod Lengths
 pub mod Natural
 pub mod Plain
+pub mod Prefixes
 pub mod Primitives
 pub mod Raw
 pub mod Steps

@@ -1,8 +1,8 @@
 // INTEGERs of an unsigned type.
-ghost use Rattle.std.specs.Prelude.{◌≡◌, ℕ, ◌+◌, ◌<◌, ◌≤◌, ◌^◌, [], OnOk, IfOk, MatchOption};
+ghost use Rattle.std.specs.Prelude.{◌≡◌, ℕ, ◌+◌, ◌<◌, ◌≤◌, ◌^◌, [], OnOk, IfOk, IfErr, MatchOption};
 ghost use Rattle.std.proofs.Common.{arith};
-ghost use Rattle.picky_der.specs.Length.{number_of};
-ghost use Rattle.picky_der.specs.Reading.{Answers, Moves};
+ghost use Rattle.picky_asn1_bits.specs.Integer.{unsigned_of};
+ghost use Rattle.picky_der.specs.Reading.{IsOfBytes, Answers, Moves, Reads};
 ghost use Rattle.picky_der.specs.Primitive.{SpellsPrimitive, primitive_at, primitive_form};
 ghost use Rattle.picky_der.specs.Form.{Writes};
 ghost use Rattle.picky_der.specs.Natural.{IsNatural, redundant, natural_of, natural_contents};
@@ -16,7 +16,7 @@ use picky_asn1_tag::Tag;
 use std::alloc::{AllocError, Global};
 
 fn number_of(octets: &[u8]) -> Option<u128>
-    ensures { MatchOption result (2 ^ 128 ≤ number_of octets.now) (λ n. n ≡ number_of octets.now) }
+    ensures { MatchOption result (2 ^ 128 ≤ unsigned_of octets.now) (λ n. n ≡ unsigned_of octets.now) }
 {
     let mut number: u128 = 0;
     for octet in octets {
@@ -40,6 +40,7 @@ fn redundant(first: u8, rest: &[u8]) -> bool
 fn natural_from(octets: &[u8], greatest: u128) -> Result<u128, DerError>
     ensures answers { Answers (λ n. n) result (natural_of (greatest + 1) octets.now) }
     ensures within { IfOk result (λ n. n ≤ greatest) }
+    ensures no_memory { IfErr result IsOfBytes }
 {
     match octets {
         [] => Err(DerError::BadValue),
@@ -73,6 +74,7 @@ fn put_octets(octets: &mut Vec<u8>, number: u128) -> Result<(), AllocError>
 fn read_natural(reader: &mut DerReader<'_>, greatest: u128) -> Result<u128, DerError>
     ensures reads { Moves (λ n. n) (primitive_at (record { 0 = 2 }) (natural_of (greatest + 1))) reader.old result reader.new }
     ensures within { IfOk result (λ n. n ≤ greatest) }
+    ensures no_memory { IfErr result IsOfBytes }
 {
     let mut ahead = reader.fork();
     let number = natural_from(ahead.read_value(Tag::INTEGER)?, greatest)?;
@@ -103,7 +105,11 @@ impl DerRead for u8 {
         tag == Tag::INTEGER
     }
 
-    fn read_der(_alloc: Global, reader: &mut DerReader<'_>) -> Result<u8, DerError> {
+    /// Takes no memory.
+    fn read_der(_alloc: Global, reader: &mut DerReader<'_>) -> Result<u8, DerError>
+        ensures reads { Reads (λ x. x) (primitive_at (record { 0 = 2 }) (natural_of (2 ^ 8))) reader.old result reader.new }
+        ensures no_memory { IfErr result IsOfBytes }
+    {
         Ok(read_natural(reader, u8::MAX as u128)? as u8)
     }
 
@@ -137,7 +143,11 @@ impl DerRead for u16 {
         tag == Tag::INTEGER
     }
 
-    fn read_der(_alloc: Global, reader: &mut DerReader<'_>) -> Result<u16, DerError> {
+    /// Takes no memory.
+    fn read_der(_alloc: Global, reader: &mut DerReader<'_>) -> Result<u16, DerError>
+        ensures reads { Reads (λ x. x) (primitive_at (record { 0 = 2 }) (natural_of (2 ^ 16))) reader.old result reader.new }
+        ensures no_memory { IfErr result IsOfBytes }
+    {
         Ok(read_natural(reader, u16::MAX as u128)? as u16)
     }
 
@@ -171,7 +181,11 @@ impl DerRead for u32 {
         tag == Tag::INTEGER
     }
 
-    fn read_der(_alloc: Global, reader: &mut DerReader<'_>) -> Result<u32, DerError> {
+    /// Takes no memory.
+    fn read_der(_alloc: Global, reader: &mut DerReader<'_>) -> Result<u32, DerError>
+        ensures reads { Reads (λ x. x) (primitive_at (record { 0 = 2 }) (natural_of (2 ^ 32))) reader.old result reader.new }
+        ensures no_memory { IfErr result IsOfBytes }
+    {
         Ok(read_natural(reader, u32::MAX as u128)? as u32)
     }
 
@@ -205,7 +219,11 @@ impl DerRead for u64 {
         tag == Tag::INTEGER
     }
 
-    fn read_der(_alloc: Global, reader: &mut DerReader<'_>) -> Result<u64, DerError> {
+    /// Takes no memory.
+    fn read_der(_alloc: Global, reader: &mut DerReader<'_>) -> Result<u64, DerError>
+        ensures reads { Reads (λ x. x) (primitive_at (record { 0 = 2 }) (natural_of (2 ^ 64))) reader.old result reader.new }
+        ensures no_memory { IfErr result IsOfBytes }
+    {
         Ok(read_natural(reader, u64::MAX as u128)? as u64)
     }
 
@@ -239,7 +257,11 @@ impl DerRead for u128 {
         tag == Tag::INTEGER
     }
 
-    fn read_der(_alloc: Global, reader: &mut DerReader<'_>) -> Result<u128, DerError> {
+    /// Takes no memory.
+    fn read_der(_alloc: Global, reader: &mut DerReader<'_>) -> Result<u128, DerError>
+        ensures reads { Reads (λ x. x) (primitive_at (record { 0 = 2 }) (natural_of (2 ^ 128))) reader.old result reader.new }
+        ensures no_memory { IfErr result IsOfBytes }
+    {
         Ok(read_natural(reader, u128::MAX)?)
     }
 

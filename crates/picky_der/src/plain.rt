@@ -1,7 +1,7 @@
 // NULL, BOOLEAN and UTF8String.
-ghost use Rattle.std.specs.Prelude.{◌≡◌, List, ℕ, Bool, string_bytes};
-ghost use Rattle.picky_der.specs.Reading.{Answers};
-ghost use Rattle.picky_der.specs.Primitive.{primitive_form};
+ghost use Rattle.std.specs.Prelude.{◌≡◌, List, ℕ, Bool, IfErr, string_bytes};
+ghost use Rattle.picky_der.specs.Reading.{IsOfBytes, Answers, Reads};
+ghost use Rattle.picky_der.specs.Primitive.{primitive_form, primitive_at};
 ghost use Rattle.picky_der.specs.Plain.{null_of, null_contents, bool_of, bool_contents, utf8_of, utf8_contents};
 ghost use Rattle.picky_der.specs.laws.Plain.{null_readable, null_writable, null_tagged, bool_readable, bool_writable, bool_tagged, utf8_readable, utf8_writable, utf8_tagged};
 
@@ -13,7 +13,8 @@ use picky_asn1_tag::Tag;
 use std::alloc::Global;
 
 fn null_from(octets: &[u8]) -> Result<(), DerError>
-    ensures { Answers (λ x. x) result (null_of octets.now) }
+    ensures answers { Answers (λ x. x) result (null_of octets.now) }
+    ensures no_memory { IfErr result IsOfBytes }
 {
     match octets {
         [] => Ok(()),
@@ -37,7 +38,11 @@ impl DerRead for () {
     }
 
     #[tactic(auto, unfolding(crate::specs::Primitive::primitive_at))]
-    fn read_der(_alloc: Global, reader: &mut DerReader<'_>) -> Result<(), DerError> {
+    /// Takes no memory.
+    fn read_der(_alloc: Global, reader: &mut DerReader<'_>) -> Result<(), DerError>
+        ensures reads { Reads (λ x. x) (primitive_at (record { 0 = 5 }) null_of) reader.old result reader.new }
+        ensures no_memory { IfErr result IsOfBytes }
+    {
         let mut ahead = reader.fork();
         null_from(ahead.read_value(Tag::NULL)?)?;
         *reader = ahead;
@@ -60,7 +65,8 @@ impl DerTagged for () {
 }
 
 fn bool_from(octets: &[u8]) -> Result<bool, DerError>
-    ensures { Answers (λ x. x) result (bool_of octets.now) }
+    ensures answers { Answers (λ x. x) result (bool_of octets.now) }
+    ensures no_memory { IfErr result IsOfBytes }
 {
     match octets {
         [octet] => match octet {
@@ -88,7 +94,11 @@ impl DerRead for bool {
     }
 
     #[tactic(auto, unfolding(crate::specs::Primitive::primitive_at))]
-    fn read_der(_alloc: Global, reader: &mut DerReader<'_>) -> Result<bool, DerError> {
+    /// Takes no memory.
+    fn read_der(_alloc: Global, reader: &mut DerReader<'_>) -> Result<bool, DerError>
+        ensures reads { Reads (λ x. x) (primitive_at (record { 0 = 1 }) bool_of) reader.old result reader.new }
+        ensures no_memory { IfErr result IsOfBytes }
+    {
         let mut ahead = reader.fork();
         let value = bool_from(ahead.read_value(Tag::BOOLEAN)?)?;
         *reader = ahead;

@@ -1,6 +1,6 @@
 // A value of any type, kept as its bytes.
-ghost use Rattle.std.specs.Prelude.{◌≡◌, List, ℕ, Ok, OnOk, IfOk};
-ghost use Rattle.picky_der.specs.Reading.{Answers, raw_at};
+ghost use Rattle.std.specs.Prelude.{◌≡◌, List, ℕ, Ok, OnOk, IfOk, IfErr};
+ghost use Rattle.picky_der.specs.Reading.{IsOfBytes, Answers, raw_at};
 ghost use Rattle.picky_der.specs.Form.{IsOneValue};
 ghost use Rattle.picky_der.specs.Raw.{raw_form, raw_whole};
 ghost use Rattle.picky_der.specs.laws.Raw.{raw_readable, raw_writable};
@@ -37,6 +37,7 @@ impl Model for Asn1RawDer {
 fn look_at(bytes: &[u8]) -> Result<(), DerError>
     ensures answers { Answers (λ _. bytes.now) result (raw_whole bytes.now) }
     ensures one { OnOk result (IsOneValue bytes.now) }
+    ensures no_memory { IfErr result IsOfBytes }
 {
     let mut reader = DerReader::new(bytes);
     reader.read_raw()?;
@@ -50,6 +51,7 @@ impl Asn1RawDer {
     pub fn new(bytes: Vec<u8>) -> Result<Asn1RawDer, DerError>
         ensures first { Answers (λ x. x) result (raw_whole bytes.items) }
         ensures one { IfOk result IsOneValue }
+        ensures no_memory { IfErr result IsOfBytes }
     {
         look_at(&bytes)?;
         Ok(Asn1RawDer {

@@ -1,9 +1,10 @@
 // A reader of values in a slice.
-ghost use Rattle.std.specs.Prelude.{◌≡◌, ◌++◌, ◌≤◌, ◌+◌, ◌↔◌, ℕ, List, [], Ok, length, IfOk, IsTrue};
-ghost use Rattle.picky_der.specs.Length.{SpellsLength, number_of};
+ghost use Rattle.std.specs.Prelude.{◌≡◌, ◌++◌, ◌≤◌, ◌+◌, ◌↔◌, ℕ, List, [], Ok, length, IfOk, IfErr, IsTrue};
+ghost use Rattle.picky_asn1_bits.specs.Integer.{unsigned_of};
+ghost use Rattle.picky_der.specs.Length.{SpellsLength};
 ghost use Rattle.picky_der.specs.Form.{OkIs, IsOneValue};
 ghost use Rattle.picky_der.specs.declared.reader.TagPeeker.{TagPeeker as Peeker};
-ghost use Rattle.picky_der.specs.Reading.{Answers, Moves, long_at, length_at, contents_at, rest_at, after_tag, value_at, raw_at, whole_bytes, nested_at, nested_bits_at, end_at, tag_at};
+ghost use Rattle.picky_der.specs.Reading.{IsOfBytes, Answers, Moves, long_at, length_at, contents_at, rest_at, after_tag, value_at, raw_at, whole_bytes, nested_at, nested_bits_at, end_at, tag_at};
 
 use crate::fault::DerError;
 use picky_asn1_tag::{Asn1Value, CopyIn, Tag};
@@ -55,7 +56,7 @@ const DEEPEST: u16 = 256;
 
 fn number_of(bytes: &[u8]) -> u64
     requires { length bytes.now ≤ 8 }
-    ensures { result ≡ number_of bytes.now }
+    ensures { result ≡ unsigned_of bytes.now }
 {
     let mut number: u64 = 0;
     for byte in bytes {
@@ -66,7 +67,8 @@ fn number_of(bytes: &[u8]) -> u64
 
 #[tactic(auto, unfolding(crate::specs::Reading::long_at))]
 fn long_length(count: usize, bytes: &[u8]) -> Result<(u64, &[u8]), DerError>
-    ensures { Answers (λ x. (x.0, x.1.now)) result (long_at count bytes.now) }
+    ensures answers { Answers (λ x. (x.0, x.1.now)) result (long_at count bytes.now) }
+    ensures no_memory { IfErr result IsOfBytes }
 {
     if bytes.len() < count {
         return Err(DerError::Truncated);
@@ -84,7 +86,8 @@ fn long_length(count: usize, bytes: &[u8]) -> Result<(u64, &[u8]), DerError>
 
 #[tactic(auto, unfolding(crate::specs::Reading::length_at))]
 fn any_length(bytes: &[u8]) -> Result<(u64, &[u8]), DerError>
-    ensures { Answers (λ x. (x.0, x.1.now)) result (length_at bytes.now) }
+    ensures answers { Answers (λ x. (x.0, x.1.now)) result (length_at bytes.now) }
+    ensures no_memory { IfErr result IsOfBytes }
 {
     match bytes {
         [] => Err(DerError::Truncated),
@@ -104,13 +107,15 @@ pub fn read_length(bytes: &[u8]) -> Result<(u64, &[u8]), DerError>
     ensures first { Answers (λ x. (x.0, x.1.now)) result (length_at bytes.now) }
     ensures found { IfOk result (λ x. (front : List ℕ) × SpellsLength front x.0 × (bytes.now ≡ front ++ x.1.now)) }
     ensures every { (front rest : List ℕ) (n : ℕ) → SpellsLength front n → bytes.now ≡ front ++ rest → OkIs {Y = ℕ × List ℕ} (λ x. (x.0, x.1.now)) result (n, rest) }
+    ensures no_memory { IfErr result IsOfBytes }
 {
     any_length(bytes)
 }
 
 #[tactic(auto, unfolding(crate::specs::Reading::contents_at))]
 fn contents(len: u64, bytes: &[u8]) -> Result<(&[u8], &[u8]), DerError>
-    ensures { Answers (λ x. (x.0.now, x.1.now)) result (contents_at len bytes.now) }
+    ensures answers { Answers (λ x. (x.0.now, x.1.now)) result (contents_at len bytes.now) }
+    ensures no_memory { IfErr result IsOfBytes }
 {
     if (bytes.len() as u64) < len {
         return Err(DerError::Truncated);
@@ -122,6 +127,7 @@ fn contents(len: u64, bytes: &[u8]) -> Result<(&[u8], &[u8]), DerError>
 fn after_tag(tag: u8, bytes: &[u8]) -> Result<(&[u8], &[u8]), DerError>
     ensures first { Answers (λ x. (x.0.now, x.1.now)) result (after_tag tag bytes.now) }
     ensures shorter { IfOk result (λ x. length x.1.now ≤ length bytes.now) }
+    ensures no_memory { IfErr result IsOfBytes }
 {
     if tag % 32 == 31 {
         return Err(DerError::BadValue);
@@ -132,7 +138,8 @@ fn after_tag(tag: u8, bytes: &[u8]) -> Result<(&[u8], &[u8]), DerError>
 
 #[tactic(auto, unfolding(crate::specs::Reading::value_at))]
 fn value(tag: Tag, bytes: &[u8]) -> Result<(&[u8], &[u8]), DerError>
-    ensures { Answers (λ x. (x.0.now, x.1.now)) result (value_at tag bytes.now) }
+    ensures answers { Answers (λ x. (x.0.now, x.1.now)) result (value_at tag bytes.now) }
+    ensures no_memory { IfErr result IsOfBytes }
 {
     match bytes {
         [] => Err(DerError::Truncated),
@@ -150,7 +157,8 @@ fn value(tag: Tag, bytes: &[u8]) -> Result<(&[u8], &[u8]), DerError>
 
 #[tactic(auto, unfolding(crate::specs::Reading::raw_at))]
 fn raw_value(bytes: &[u8]) -> Result<(&[u8], &[u8]), DerError>
-    ensures { Answers (λ x. (x.0.now, x.1.now)) result (raw_at bytes.now) }
+    ensures answers { Answers (λ x. (x.0.now, x.1.now)) result (raw_at bytes.now) }
+    ensures no_memory { IfErr result IsOfBytes }
 {
     match bytes {
         [] => Err(DerError::Truncated),
@@ -165,13 +173,15 @@ fn raw_value(bytes: &[u8]) -> Result<(&[u8], &[u8]), DerError>
 fn one_value(bytes: &[u8]) -> Result<(&[u8], &[u8]), DerError>
     ensures first { Answers (λ x. (x.0.now, x.1.now)) result (raw_at bytes.now) }
     ensures one { IfOk result (λ x. IsOneValue x.0.now) }
+    ensures no_memory { IfErr result IsOfBytes }
 {
     raw_value(bytes)
 }
 
 #[tactic(auto, unfolding(crate::specs::Reading::whole_bytes))]
 fn whole_bytes(contents: &[u8]) -> Result<&[u8], DerError>
-    ensures { Answers (λ x. x.now) result (whole_bytes contents.now) }
+    ensures answers { Answers (λ x. x.now) result (whole_bytes contents.now) }
+    ensures no_memory { IfErr result IsOfBytes }
 {
     match contents {
         [0, bytes @ ..] => Ok(bytes),
@@ -220,7 +230,8 @@ impl<'a> DerReader<'a> {
     /// The next tag. `Truncated` where nothing is left. The reader stays where it is.
     #[tactic(auto, unfolding(crate::specs::Reading::tag_at))]
     pub fn peek_tag(&self) -> Result<TagPeeker, DerError>
-        ensures { Answers (λ x. x.next_tag.0) result (tag_at self.now.left) }
+        ensures answers { Answers (λ x. x.next_tag.0) result (tag_at self.now.left) }
+        ensures no_memory { IfErr result IsOfBytes }
     {
         match self.left {
             [] => Err(DerError::Truncated),
@@ -235,7 +246,8 @@ impl<'a> DerReader<'a> {
     /// The first of: `Truncated` where nothing is left; `WrongTag`; `BadValue` where the tag's number is 31;
     /// `Truncated` where a length byte is missing; `BadLength`; `Truncated` where the contents are cut.
     pub fn read_value(&mut self, tag: Tag) -> Result<&'a [u8], DerError>
-        ensures { Moves (λ x. x.now) (λ _ bytes. value_at tag bytes) self.old result self.new }
+        ensures reads { Moves (λ x. x.now) (λ _ bytes. value_at tag bytes) self.old result self.new }
+        ensures no_memory { IfErr result IsOfBytes }
     {
         let (contents, left) = value(tag, self.left)?;
         self.left = left;
@@ -248,6 +260,7 @@ impl<'a> DerReader<'a> {
     pub fn read_raw(&mut self) -> Result<&'a [u8], DerError>
         ensures reads { Moves (λ x. x.now) (λ _ bytes. raw_at bytes) self.old result self.new }
         ensures one { IfOk result (λ x. IsOneValue x.now) }
+        ensures no_memory { IfErr result IsOfBytes }
     {
         let (raw, left) = one_value(self.left)?;
         self.left = left;
@@ -261,6 +274,7 @@ impl<'a> DerReader<'a> {
     pub fn nested(&mut self, tag: Tag) -> Result<DerReader<'a>, DerError>
         ensures reads { Moves (λ x. x.left) (nested_at tag) self.old result self.new }
         ensures depth { IfOk result (λ x. x.depth ≡ self.old.depth + 1) }
+        ensures no_memory { IfErr result IsOfBytes }
     {
         let (contents, left) = value(tag, self.left)?;
         if DEEPEST <= self.depth {
@@ -282,6 +296,7 @@ impl<'a> DerReader<'a> {
     pub fn nested_bits(&mut self, tag: Tag) -> Result<DerReader<'a>, DerError>
         ensures reads { Moves (λ x. x.left) (nested_bits_at tag) self.old result self.new }
         ensures depth { IfOk result (λ x. x.depth ≡ self.old.depth + 1) }
+        ensures no_memory { IfErr result IsOfBytes }
     {
         let (contents, left) = value(tag, self.left)?;
         let bytes = whole_bytes(contents)?;
@@ -298,7 +313,8 @@ impl<'a> DerReader<'a> {
     /// Nothing is left, else `TrailingBytes`.
     #[tactic(auto, unfolding(crate::specs::Reading::end_at))]
     pub fn end(&self) -> Result<(), DerError>
-        ensures { Answers (λ x. x) result (end_at self.now.left) }
+        ensures answers { Answers (λ x. x) result (end_at self.now.left) }
+        ensures no_memory { IfErr result IsOfBytes }
     {
         match self.left {
             [] => Ok(()),

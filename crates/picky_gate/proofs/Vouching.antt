@@ -22,13 +22,13 @@ vouched t signs key alg r is gives =
 unvouched : (t : FirstText) (signs : Relation) (key : PublicKeyKind) (f : JwsFault) → TokenReading t.reading t.token → (signed_table signs key EdDSA t.token).refuses f → (f ≡ signature bad) × (¬ (Vouched signs key t))
 unvouched t signs key f r due = ((signed_fails t.reading t.token signs key r f due).0, λ v. (signed_fails t.reading t.token signs key v.0 f due).1 v.1)
 
-judged_refuses : (t : FirstText) (signs : Relation) (date : JwtDate) (key : NamedKey) (f : JwsFault) → (f ≡ signature bad) × (¬ (Vouched signs key.key t)) → (judged_table signs date t key).refuses (of_token (jws (Some f)))
+judged_refuses : (t : FirstText) (signs : Relation) (date : JwtDate) (key : NamedKey) (f : JwsFault) → (f ≡ signature bad) × (¬ (Vouched signs key.key t)) → (judged_table signs date t key).refuses (of_token (jws f))
 unfolding judged_table
-judged_refuses t signs date key f (is, none) = inl (ap (λ (g : JwsFault). of_token (jws (Some g))) is, none)
+judged_refuses t signs date key f (is, none) = inl (ap (λ (g : JwsFault). of_token (jws g)) is, none)
 
 -- a token whose signature doesn't hold, where the error is taken over
 pub judged_meets : (t : FirstText) (signs : Relation) (date : JwtDate) (key : NamedKey) (alg : JwsAlg) (f : Option JwsFault) (r : Refusal) → TokenReading t.reading t.token → alg ≡ t.reading.header.alg
-    → IfSome f (signed_table signs key.key alg t.token).refuses → MatchOption f (r ≡ OutOfMemory) (λ g. cause_of r ≡ Some (of_token (jws (Some g))))
+    → IfSome f (signed_table signs key.key alg t.token).refuses → MatchOption f (r ≡ OutOfMemory) (λ g. cause_of r ≡ Some (of_token (jws g)))
     → IfSome (cause_of r) (judged_table signs date t key).refuses
 judged_meets t signs date key alg None r reads is due same = subst (λ (q : Refusal). IfSome (cause_of q) (judged_table signs date t key).refuses) (sym same) tt
 judged_meets t signs date key alg (Some f) r reads is due same =

@@ -1,10 +1,7 @@
 -- The scheme word of tokens (RFC 6750, section 2.1), and which tokens are signed ones (own).
 use Rattle.std.specs.Prelude.{◌≡◌, ◌==◌, ◌<◌, ℕ, List, ◌++◌, codes}
 use Rattle.std.specs.List.{count_by}
-
--- `.`
-abbrev pub dot : ℕ
-dot = 46
+use Rattle.picky_jose.specs.Token.{dot}
 
 -- the text is `Bearer ` and the token, which has fewer than four dots
 pub record SignedTokenOf (text token : List ℕ) : Type 0 where

@@ -1,5 +1,5 @@
 -- What is printed, and the statuses of what isn't admitted (own).
-use Rattle.std.specs.Prelude.{ℕ, List, [], ◌++◌, codes, Some, None}
+use Rattle.std.specs.Prelude.{ℕ, List, ◌++◌, codes}
 use Rattle.serde_json.specs.Data.{Data}
 use Rattle.serde_json.specs.Written.{compact_text}
 use Rattle.picky_json.specs.Text.{json_text}
@@ -38,8 +38,7 @@ jws_text jose.not_base64 = codes "Jws.Base64Decoding"
 jws_text jose.float = codes "Jws.Float"
 
 abbrev pub jwt_text : jose.JwtFault → List ℕ
-jwt_text (jose.jws (Some fault)) = jws_text fault
-jwt_text (jose.jws None) = []
+jwt_text (jose.jws fault) = jws_text fault
 jwt_text jose.no_json = codes "Jwt.Json"
 jwt_text (jose.no_integer claim) = codes "Jwt.InvalidRegisteredClaimType"
 jwt_text (jose.not_yet_valid start date) = codes "Jwt.NotYetValid"

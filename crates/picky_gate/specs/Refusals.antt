@@ -35,7 +35,7 @@ cause_of refusal.Unbuilt = Some unbuilt
 
 -- the relation doesn't hold of a token
 abbrev pub bad_signature : Cause
-bad_signature = of_token (jws (Some (signature bad)))
+bad_signature = of_token (jws (signature bad))
 
 -- the conditions of a token whose signature holds, in their order, and what is admitted
 unfoldable pub claimed_table : JwtDate → List ℕ → Header → List ℕ → Table Admission Cause

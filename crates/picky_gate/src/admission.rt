@@ -66,6 +66,7 @@ impl From<JwtError> for Refusal {
     fn from(error: JwtError) -> Refusal {
         match error {
             JwtError::OutOfMemory => Refusal::OutOfMemory,
+            JwtError::Jws { source } => Refusal::from(source),
             error => Refusal::Token(error),
         }
     }
@@ -77,7 +78,7 @@ impl From<JwsError> for Refusal {
     ghost use Rattle.picky_gate.specs.declared.admission.Refusal.TheVariants.{OutOfMemory};
     ghost use Rattle.picky_gate.specs.Refusals.{cause_of, of_token};
 
-    ghost from_gives = { λ error refusal. MatchOption (jws_fault error) (refusal ≡ OutOfMemory) (λ f. cause_of refusal ≡ Some (of_token (jws (Some f)))) };
+    ghost from_gives = { λ error refusal. MatchOption (jws_fault error) (refusal ≡ OutOfMemory) (λ f. cause_of refusal ≡ Some (of_token (jws f))) };
 
     fn from(error: JwsError) -> Refusal {
         match error {

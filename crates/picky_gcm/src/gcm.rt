@@ -1,11 +1,12 @@
 // Authenticated encryption and decryption (SP 800-38D, 7).
-ghost use Rattle.std.specs.Prelude.{◌≡◌, ◌≤◌, ◌-◌, ◌^◌, ◌↔◌, ℕ, List, length, IsTrue, IsNone, IsSome, option_map};
+ghost use Rattle.std.specs.Prelude.{◌≡◌, ◌≤◌, ◌-◌, ◌^◌, ◌↔◌, ℕ, List, length, IsNone, IsSome, option_map};
 ghost use Rattle.picky_aes.specs.Cipher.{add_bytes};
 ghost use Rattle.picky_gcm.specs.Gcm.{Open, Seal, tag_of};
 
 use crate::counter::{count, stream_block};
 use crate::hash_table::HashTable;
 use picky_aes::Aes;
+use picky_contract::equal_bytes;
 
 // The sums of the bytes of two blocks.
 fn add(block: &mut [u8; 16], other: &[u8; 16])
@@ -14,17 +15,6 @@ fn add(block: &mut [u8; 16], other: &[u8; 16])
     for i in 0..16 {
         block[i] ^= other[i];
     }
-}
-
-// Whether two tags are the same. All bytes are looked at, whatever they are.
-fn is_same(a: &[u8; 16], b: &[u8; 16]) -> bool
-    ensures { IsTrue result ↔ (a.now ≡ b.now) }
-{
-    let mut differing = 0;
-    for i in 0..16 {
-        differing |= a[i] ^ b[i];
-    }
-    differing == 0
 }
 
 // The tag of a ciphertext.
@@ -74,7 +64,7 @@ pub fn gcm_open(
     ensures same_tag { IsSome result ↔ (tag_of aes.now nonce.now aad.now buffer.old ≡ tag.now) }
     ensures unchanged { IsNone result → buffer.new ≡ buffer.old }
 {
-    if !is_same(&tag_of(aes, nonce, aad, buffer), tag) {
+    if !equal_bytes(&tag_of(aes, nonce, aad, buffer), tag) {
         return None;
     }
     count(aes, nonce, buffer);

@@ -6,15 +6,11 @@
 //! takes memory.
 #![tactic(auto)]
 
-#[cfg(test)]
-mod cases;
 mod counter;
 mod gcm;
 mod hash_table;
 pub mod laws;
 mod polynomial;
-#[cfg(test)]
-mod tests;
 
 pub use gcm::{gcm_open, gcm_seal};
 pub use hash_table::HashTable;

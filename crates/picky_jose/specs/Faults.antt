@@ -1,5 +1,5 @@
 -- What the errors of tokens say, want of memory aside (own).
-use Rattle.std.specs.Prelude.{ℕ, ℤ, List, Option, Some, None, string_bytes}
+use Rattle.std.specs.Prelude.{ℕ, ℤ, List, Option, Some, None, option_map, string_bytes}
 use Rattle.picky_key.specs.declared.error.SignatureError.{SignatureError}
 use Rattle.picky_key.specs.declared.error.SignatureError.TheVariants as of_signature
 use Rattle.picky_jose.specs.declared.error.JwsError.{JwsError}
@@ -35,9 +35,9 @@ jws_fault of_jws.Base64Decoding = Some not_base64
 jws_fault of_jws.Float = Some float
 jws_fault of_jws.OutOfMemory = None
 
--- why claims aren't accepted; `jws` has no fault only for an inner want of memory, which is no refusal of any table
+-- why claims aren't accepted; an inner want of memory is one of the outer error
 pub data JwtFault : Type 0 where
-  jws : Option JwsFault → JwtFault
+  jws : JwsFault → JwtFault
   no_json : JwtFault
   no_integer : List ℕ → JwtFault
   not_yet_valid : ℤ → JwtDate → JwtFault
@@ -45,7 +45,7 @@ pub data JwtFault : Type 0 where
   has_float : JwtFault
 
 abbrev pub jwt_fault : JwtError → Option JwtFault
-jwt_fault (of_jwt.Jws source) = Some (jws (jws_fault source))
+jwt_fault (of_jwt.Jws source) = option_map jws (jws_fault source)
 jwt_fault of_jwt.Json = Some no_json
 jwt_fault (of_jwt.InvalidRegisteredClaimType claim) = Some (no_integer claim.now)
 jwt_fault (of_jwt.NotYetValid not_before now) = Some (not_yet_valid not_before now)

@@ -168,19 +168,3 @@ impl<'repr> RawJws<'repr> {
         })
     }
 }
-
-// A token with any text and any name, for the tests of `verify`.
-#[cfg(test)]
-pub(crate) fn raw(
-    alloc: Global,
-    text: &str,
-    header: JwsHeader,
-) -> Result<RawJws<'static>, AllocError> {
-    let text = String::from_str(alloc, text)?;
-    Ok(RawJws {
-        compact_repr: CowStr::Owned(text),
-        header,
-        signature: Vec::new(alloc),
-        payload: Vec::new(alloc),
-    })
-}

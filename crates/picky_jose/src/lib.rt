@@ -14,8 +14,6 @@ mod jws;
 mod jwt;
 pub mod laws;
 mod signature;
-#[cfg(test)]
-mod tests;
 
 pub use date::{JwtDate, JwtValidator};
 pub use error::{JwsError, JwtError};

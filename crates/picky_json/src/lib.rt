@@ -8,8 +8,6 @@
 
 pub mod laws;
 mod object;
-#[cfg(test)]
-mod tests;
 mod text;
 mod tree;
 

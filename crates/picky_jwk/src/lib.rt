@@ -8,8 +8,6 @@ mod error;
 mod jwk;
 pub mod laws;
 mod set;
-#[cfg(test)]
-mod tests;
 
 pub use alg::JwsAlg;
 pub use error::JwkError;

@@ -56,8 +56,9 @@ pub fn concat_kdf(
 ) -> Result<Vec<u8>, AllocError>
     requires some { 1 ≤ size }
     requires short { size ≤ 64 }
-    ensures { IfOk result (λ key. key.items
+    ensures key { IfOk result (λ key. key.items
         ≡ concat_kdf algorithm.now size secret.now apu.now apv.now) }
+    ensures size { IfOk result (λ key. length key.items ≡ size) }
 {
     let mut key = Vec::new(alloc);
     for done in 0..parts_for(32, size) {

@@ -10,8 +10,6 @@ mod hash;
 mod mac;
 mod pkcs12;
 mod pkcs5;
-#[cfg(test)]
-mod tests;
 
 pub use concat::concat_kdf;
 pub use hash::Pkcs12HashAlgorithm;

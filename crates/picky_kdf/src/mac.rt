@@ -84,7 +84,8 @@ pub fn hmac(
     key: &[u8],
     message: &[u8],
 ) -> Result<Vec<u8>, AllocError>
-    ensures { IfOk result (λ mac. mac.items ≡ hmac hash key.now message.now) }
+    ensures mac { IfOk result (λ mac. mac.items ≡ hmac hash key.now message.now) }
+    ensures size { IfOk result (λ mac. length mac.items ≡ digest_size hash) }
 {
     let mac = KeyedHashers::new(hash, key).mac(hash, message, &[])?;
     mac[..hash.digest_size()].to_vec(alloc)

@@ -150,8 +150,9 @@ pub fn pbkdf1(
 ) -> Result<Vec<u8>, AllocError>
     requires iterated { 1 ≤ kdf_iterations }
     requires short { output_size ≤ 1024 }
-    ensures { IfOk result (λ key. key.items
+    ensures key { IfOk result (λ key. key.items
         ≡ pbkdf1 hash password.now salt.now kdf_iterations usage output_size) }
+    ensures size { IfOk result (λ key. length key.items ≡ output_size) }
 {
     let block = hash.block_size();
     let part = hash.digest_size();

@@ -63,7 +63,8 @@ pub fn pbkdf2(
 ) -> Result<Vec<u8>, AllocError>
     requires iterated { 1 ≤ iterations }
     requires short { size ≤ 1024 }
-    ensures { IfOk result (λ key. key.items ≡ pbkdf2 hash password.now salt.now iterations size) }
+    ensures key { IfOk result (λ key. key.items ≡ pbkdf2 hash password.now salt.now iterations size) }
+    ensures size { IfOk result (λ key. length key.items ≡ size) }
 {
     let hashers = KeyedHashers::new(hash, password);
     let part = hash.digest_size();

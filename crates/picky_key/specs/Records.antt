@@ -71,9 +71,12 @@ Signs [] k a m sig = ⊥
 Signs (s ∷ ss) k a m sig = IsOf s k a m sig ⊎ Signs ss k a m sig
 
 -- why a document isn't read, want of memory aside
-abbrev pub fault : RecordFault → Option RecordFault
+pub data Fault : Type 0 where
+  unbuilt : Fault
+
+abbrev pub fault : RecordFault → Option Fault
 fault OutOfMemory = None
-fault Unbuilt = Some Unbuilt
+fault Unbuilt = Some unbuilt
 
 abbrev pub fields_view : Bor (List ℕ) × Bor (List ℕ) × Bor (List ℕ) → Fields
 fields_view f = record { spki = f.0.now; message = f.1.now; signature = f.2.now }

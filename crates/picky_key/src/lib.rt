@@ -9,8 +9,6 @@ mod error;
 mod key;
 mod provider;
 mod recorded;
-#[cfg(test)]
-mod tests;
 
 pub use algorithm::{EdAlgorithm, HashAlgorithm, SignatureAlgorithm};
 pub use error::{KeyError, SignatureError};

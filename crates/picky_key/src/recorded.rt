@@ -71,8 +71,7 @@ impl Model for Recorded {
 
 impl Recorded {
     ghost use Rattle.picky_key.specs.declared.recorded.Signature.{Signature};
-    ghost use Rattle.picky_key.specs.declared.recorded.RecordFault.TheVariants.{Unbuilt};
-    ghost use Rattle.picky_key.specs.Records.{FirstRecordsOf, fault};
+    ghost use Rattle.picky_key.specs.Records.{FirstRecordsOf, fault, unbuilt};
 
     /// Reads a records document of the first form: lines ended by LF, each
     /// `sig ed25519-sha512 SPKI MESSAGE SIGNATURE`, its fields parted by one space and the last three
@@ -83,7 +82,7 @@ impl Recorded {
     pub fn read(alloc: Global, text: &str) -> Result<Recorded, RecordFault>
         ensures found { IfOk result (λ p. FirstRecordsOf text.now p) }
         ensures every { (ss : List Signature) → FirstRecordsOf text.now ss → OkOrMemory (λ p. p) fault result ss }
-        ensures first { Meets (λ p. p) fault result (the (FirstRecordsOf text.now) Unbuilt) }
+        ensures first { Meets (λ p. p) fault result (the (FirstRecordsOf text.now) unbuilt) }
     {
         let Some(signatures) = signatures_of(alloc, text)? else {
             return Err(RecordFault::Unbuilt);

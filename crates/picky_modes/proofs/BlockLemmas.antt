@@ -5,44 +5,45 @@ use lib.Bits.{xor_assoc}
 use Rattle.std.proofs.lemmas.Bool.{cases_lt}
 use Rattle.std.proofs.lemmas.Nat.{xor_of_8}
 use Rattle.std.proofs.lemmas.List.{drop-append-le, drop_at, get_or-append_right, get_or-drop, get_or-take, get_or_append_left, get_or_past, length-drop, length-take, take-append-le, take_all}
-use Rattle.picky_modes.specs.Blocks.{IsBlock, IsBytes, block, xor}
+use Rattle.picky_aes.specs.Cipher.{add_bytes}
+use Rattle.picky_modes.specs.Blocks.{IsBlock, IsBytes, block}
 
 -- ---- exclusive or
 xor-step : (xs ys : List ℕ) (i : ℕ) → i < length xs → i < length ys
-    → set (xor (take i xs) (take i ys) ++ drop i xs) i (bit_xor (get_or (xor (take i xs) (take i ys) ++ drop i xs) i 0) (get_or ys i 0))
-    ≡ xor (take (suc i) xs) (take (suc i) ys) ++ drop (suc i) xs
+    → set (add_bytes (take i xs) (take i ys) ++ drop i xs) i (bit_xor (get_or (add_bytes (take i xs) (take i ys) ++ drop i xs) i 0) (get_or ys i 0))
+    ≡ add_bytes (take (suc i) xs) (take (suc i) ys) ++ drop (suc i) xs
 xor-step [] ys i h k = absurd (omega arith)
 xor-step (x ∷ xs) [] i h k = absurd (omega arith)
 xor-step (x ∷ xs) (y ∷ ys) zero h k = refl
 xor-step (x ∷ xs) (y ∷ ys) (suc i) h k = ap (λ l. bit_xor x y ∷ l) (xor-step xs ys i (omega arith) (omega arith))
 
 -- one step of a loop that adds ys to xs in place
-pub xor-more : (xs ys zs : List ℕ) (i : ℕ) → i < length xs → i < length ys → zs ≡ xor (take i xs) (take i ys) ++ drop i xs
-    → set zs i (bit_xor (get_or zs i 0) (get_or ys i 0)) ≡ xor (take (i + 1) xs) (take (i + 1) ys) ++ drop (i + 1) xs
+pub xor-more : (xs ys zs : List ℕ) (i : ℕ) → i < length xs → i < length ys → zs ≡ add_bytes (take i xs) (take i ys) ++ drop i xs
+    → set zs i (bit_xor (get_or zs i 0) (get_or ys i 0)) ≡ add_bytes (take (i + 1) xs) (take (i + 1) ys) ++ drop (i + 1) xs
 xor-more xs ys zs i h k e = rw (e, add-one) (xor-step xs ys i h k)
 
 xor_once : (x y : ℕ) → bit_xor (bit_xor x y) y ≡ x
 xor_once x y = xor_assoc x y y ∙ ap (bit_xor x) (xor_self y) ∙ xor_zero_r x
 
 -- what is added twice is gone
-pub xor_twice : (xs ys : List ℕ) → length xs ≡ length ys → xor (xor xs ys) ys ≡ xs
+pub xor_twice : (xs ys : List ℕ) → length xs ≡ length ys → add_bytes (add_bytes xs ys) ys ≡ xs
 xor_twice [] ys e = refl
 xor_twice (x ∷ xs) [] e = absurd (omega arith)
 xor_twice (x ∷ xs) (y ∷ ys) e = λ i. xor_once x y i ∷ xor_twice xs ys (omega arith) i
 
-pub length-xor : (xs ys : List ℕ) → length xs ≡ length ys → length (xor xs ys) ≡ length xs
+pub length-xor : (xs ys : List ℕ) → length xs ≡ length ys → length (add_bytes xs ys) ≡ length xs
 length-xor [] ys e = refl
 length-xor (x ∷ xs) [] e = absurd (omega arith)
 length-xor (x ∷ xs) (y ∷ ys) e = ap suc (length-xor xs ys (omega arith))
 
-pub get_or-xor : (xs ys : List ℕ) (i : ℕ) → length xs ≡ length ys → get_or (xor xs ys) i 0 ≡ bit_xor (get_or xs i 0) (get_or ys i 0)
+pub get_or-xor : (xs ys : List ℕ) (i : ℕ) → length xs ≡ length ys → get_or (add_bytes xs ys) i 0 ≡ bit_xor (get_or xs i 0) (get_or ys i 0)
 get_or-xor [] [] i e = refl
 get_or-xor [] (y ∷ ys) i e = absurd (omega arith)
 get_or-xor (x ∷ xs) [] i e = absurd (omega arith)
 get_or-xor (x ∷ xs) (y ∷ ys) zero e = refl
 get_or-xor (x ∷ xs) (y ∷ ys) (suc i) e = get_or-xor xs ys i (omega arith)
 
-pub IsBlock-xor : (v : ℕ) (xs ys : List ℕ) → IsBlock v xs → IsBlock v ys → IsBlock v (xor xs ys)
+pub IsBlock-xor : (v : ℕ) (xs ys : List ℕ) → IsBlock v xs → IsBlock v ys → IsBlock v (add_bytes xs ys)
 IsBlock-xor v xs ys hx hy =
     let e : length xs ≡ length ys = hx.size ∙ sym hy.size in
     record {

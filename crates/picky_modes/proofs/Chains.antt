@@ -6,7 +6,8 @@ use Rattle.std.proofs.Math.Seq.{take-add}
 use Rattle.std.proofs.lemmas.Bool.{cases_lt}
 use Rattle.std.proofs.lemmas.Slice.{drop-put_mid, take-put_mid}
 use Rattle.std.proofs.lemmas.List.{append-nil, drop-drop, length-append, length-drop, length-take-le, nil_from_length, take-append-drop, take_all}
-use Rattle.picky_modes.specs.Blocks.{IsBlock, IsBytes, block, xor}
+use Rattle.picky_aes.specs.Cipher.{add_bytes}
+use Rattle.picky_modes.specs.Blocks.{IsBlock, IsBytes, block}
 use Rattle.picky_modes.specs.Cbc.{IsChained}
 use Rattle.picky_modes.proofs.BlockLemmas.{IsBytes-drop, IsBytes-take, block-front, block-is, block-last, length-block}
 
@@ -48,24 +49,24 @@ before-more v iv sealed c k j hi hs le =
     ap (λ s. block v s j) (sym (append_assoc iv sealed c)) ∙ block-front v (iv ++ sealed) c j fits_front
 
 link-front : (e : List ℕ → List ℕ) (v : ℕ) (iv plain sealed b c : List ℕ) (k j : ℕ) → length iv ≡ v → length sealed ≡ v * k → IsChained e v iv plain sealed → 0 < v → j < k
-    → block v (sealed ++ c) j ≡ e (xor (block v (plain ++ b) j) (block v (iv ++ (sealed ++ c)) j))
+    → block v (sealed ++ c) j ≡ e (add_bytes (block v (plain ++ b) j) (block v (iv ++ (sealed ++ c)) j))
 link-front e v iv plain sealed b c k j hi hs h pos lt =
     let fits : v * j + v ≤ v * k = within v j k lt in
     let fits_sealed : v * j + v ≤ length sealed = omega arith in
     let fits_plain : v * j + v ≤ length plain = omega (arith, h.size) in
     let inside : v * j < length sealed = omega arith in
     block-front v sealed c j fits_sealed ∙ h.links j inside
-    ∙ ap e (λ i. xor (sym (block-front v plain b j fits_plain) i) (sym (before-more v iv sealed c k j hi hs (omega arith)) i))
+    ∙ ap e (λ i. add_bytes (sym (block-front v plain b j fits_plain) i) (sym (before-more v iv sealed c k j hi hs (omega arith)) i))
 
 link-last : (e : List ℕ → List ℕ) (v : ℕ) (iv plain sealed last b c : List ℕ) (k : ℕ) → length iv ≡ v → Chain e v iv plain sealed last k → length b ≡ v → length c ≡ v
-    → c ≡ e (xor b last) → block v (sealed ++ c) k ≡ e (xor (block v (plain ++ b) k) (block v (iv ++ (sealed ++ c)) k))
+    → c ≡ e (add_bytes b last) → block v (sealed ++ c) k ≡ e (add_bytes (block v (plain ++ b) k) (block v (iv ++ (sealed ++ c)) k))
 link-last e v iv plain sealed last b c k hi h hb hc made =
     let plain_size : length plain ≡ v * k = sym h.chained.size ∙ h.size in
     block-last v sealed c k h.size hc ∙ made
-    ∙ ap e (λ i. xor (sym (block-last v plain b k plain_size hb) i) ((h.end ∙ sym (before-more v iv sealed c k k hi h.size (omega arith))) i))
+    ∙ ap e (λ i. add_bytes (sym (block-last v plain b k plain_size hb) i) ((h.end ∙ sym (before-more v iv sealed c k k hi h.size (omega arith))) i))
 
 pub Chain-more : (e : List ℕ → List ℕ) (v : ℕ) (iv plain sealed last b c : List ℕ) (k : ℕ) → 0 < v → length iv ≡ v → Chain e v iv plain sealed last k
-    → length b ≡ v → length c ≡ v → c ≡ e (xor b last) → Chain e v iv (plain ++ b) (sealed ++ c) c (k + 1)
+    → length b ≡ v → length c ≡ v → c ≡ e (add_bytes b last) → Chain e v iv (plain ++ b) (sealed ++ c) c (k + 1)
 Chain-more e v iv plain sealed last b c k pos hi h hb hc made =
     let whole : length (sealed ++ c) ≡ v * (k + 1) = omega (arith, length-append sealed c, step v k, h.size) in
     record {
@@ -98,22 +99,22 @@ IsChained-front e v iv plain sealed c k hi hs hc h =
           let inside : v * j < length (sealed ++ c) = omega (arith, length-append sealed c) in
           let same : block v plain j ≡ block v (take (v * k) plain) j = ap (λ s. block v s j) (sym (take-append-drop (v * k) plain)) ∙ block-front v (take (v * k) plain) (drop (v * k) plain) j fits_plain in
           sym (block-front v sealed c j fits_sealed) ∙ h.links j inside
-          ∙ ap e (λ i. xor (same i) (before-more v iv sealed c k j hi hs (omega arith) i));
+          ∙ ap e (λ i. add_bytes (same i) (before-more v iv sealed c k j hi hs (omega arith) i));
     }
 
 pub IsChained-last : (e : List ℕ → List ℕ) (v : ℕ) (iv plain sealed last c : List ℕ) (k : ℕ) → 0 < v → length iv ≡ v → length sealed ≡ v * k → length c ≡ v → last ≡ block v (iv ++ sealed) k
-    → IsChained e v iv plain (sealed ++ c) → e (xor (drop (v * k) plain) last) ≡ c
+    → IsChained e v iv plain (sealed ++ c) → e (add_bytes (drop (v * k) plain) last) ≡ c
 IsChained-last e v iv plain sealed last c k pos hi hs hc el h =
     let plain_size : length plain ≡ v * k + v = sym h.size ∙ omega (arith, length-append sealed c) in
     let inside : v * k < length (sealed ++ c) = omega (arith, length-append sealed c) in
     let rest : block v plain k ≡ drop (v * k) plain = block-is v plain k ∙ take_all v (drop (v * k) plain) (omega (arith, length-drop (v * k) plain)) in
-    ap e (λ i. xor (sym rest i) ((el ∙ sym (before-more v iv sealed c k k hi hs (omega arith))) i))
+    ap e (λ i. add_bytes (sym rest i) ((el ∙ sym (before-more v iv sealed c k k hi hs (omega arith))) i))
     ∙ sym (h.links k inside) ∙ block-last v sealed c k hs hc
 
 -- the plain blocks of a longer chain are known, where those of the shorter one are and one block fits
 pub only-more : (e : List ℕ → List ℕ) (v : ℕ) (iv front sealed last b c : List ℕ) (k : ℕ) → 0 < v → length iv ≡ v → length sealed ≡ v * k → length c ≡ v → last ≡ block v (iv ++ sealed) k
     → ((plain : List ℕ) → IsBytes plain → IsChained e v iv plain sealed → plain ≡ front)
-    → ((x : List ℕ) → IsBlock v x → e (xor x last) ≡ c → x ≡ b)
+    → ((x : List ℕ) → IsBlock v x → e (add_bytes x last) ≡ c → x ≡ b)
     → (plain : List ℕ) → IsBytes plain → IsChained e v iv plain (sealed ++ c) → plain ≡ front ++ b
 only-more e v iv front sealed last b c k pos hi hs hc el before alone plain bytes h =
     let plain_size : length plain ≡ v * k + v = sym h.size ∙ omega (arith, length-append sealed c) in
@@ -154,12 +155,12 @@ IsSealedTo-none e v iv old hi =
     record { chain = rw zero_size (Chain-none e v iv hi); rest = refl; last_size = hi }
 
 pub IsSealedTo-more : (e : List ℕ → List ℕ) (v : ℕ) (iv old now last c next : List ℕ) (k w : ℕ) → 0 < v → length iv ≡ v → v * k + v ≤ length old → length now ≡ length old
-    → IsSealedTo e v iv old now last k → length c ≡ v → w ≡ v → c ≡ e (xor (take w (drop (v * k) now)) last) → next ≡ c
+    → IsSealedTo e v iv old now last k → length c ≡ v → w ≡ v → c ≡ e (add_bytes (take w (drop (v * k) now)) last) → next ≡ c
     → IsSealedTo e v iv old (put_mid (v * k) w now c) next (k + 1)
 IsSealedTo-more e v iv old now last c next k w pos hi fits size h hc hw made en =
     let fits_now : v * k + v ≤ length now = omega arith in
     let read : take w (drop (v * k) now) ≡ take v (drop (v * k) old) = λ i. take (hw i) (h.rest i) in
-    let made_of : c ≡ e (xor (take v (drop (v * k) old)) last) = made ∙ ap (λ b. e (xor b last)) read in
+    let made_of : c ≡ e (add_bytes (take v (drop (v * k) old)) last) = made ∙ ap (λ b. e (add_bytes b last)) read in
     record {
       chain = rw (take-next v old k, take-written v now c k w fits_now hc, en) (Chain-more e v iv (take (v * k) old) (take (v * k) now) last (take v (drop (v * k) old)) c k pos hi h.chain (length-next v old k fits) hc made_of);
       rest = drop-written v old now c k w fits_now hc hw h.rest;
@@ -190,8 +191,8 @@ IsOpenedTo-none e v iv old hi =
     }
 
 pub IsOpenedTo-more : (e : List ℕ → List ℕ) (v : ℕ) (iv old now last b next : List ℕ) (k w : ℕ) → 0 < v → length iv ≡ v → v * k + v ≤ length old → length now ≡ length old
-    → IsOpenedTo e v iv old now last k → length b ≡ v → w ≡ v → e (xor b last) ≡ take w (drop (v * k) now)
-    → ((x : List ℕ) → IsBlock v x → e (xor x last) ≡ take w (drop (v * k) now) → x ≡ b) → next ≡ take w (drop (v * k) now) → IsBytes next
+    → IsOpenedTo e v iv old now last k → length b ≡ v → w ≡ v → e (add_bytes b last) ≡ take w (drop (v * k) now)
+    → ((x : List ℕ) → IsBlock v x → e (add_bytes x last) ≡ take w (drop (v * k) now) → x ≡ b) → next ≡ take w (drop (v * k) now) → IsBytes next
     → IsOpenedTo e v iv old (put_mid (v * k) w now b) next (k + 1)
 IsOpenedTo-more e v iv old now last b next k w pos hi fits size h hb hw back alone en bytes =
     let fits_now : v * k + v ≤ length now = omega arith in

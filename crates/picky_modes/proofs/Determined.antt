@@ -3,7 +3,8 @@ use Rattle.std.proofs.Common.{◌≡◌, ℕ, zero, suc, ◌+◌, ◌*◌, ◌/�
 use Rattle.std.proofs.Math.Nat.{div-add-mod}
 use Rattle.std.proofs.Math.Seq.{take-add}
 use Rattle.std.proofs.lemmas.List.{append_assoc, length-append, length-take-le, take-append-drop, take_all}
-use Rattle.picky_modes.specs.Blocks.{block, xor}
+use Rattle.picky_aes.specs.Cipher.{add_bytes}
+use Rattle.picky_modes.specs.Blocks.{block}
 use Rattle.picky_modes.specs.Cbc.{IsCbc, IsChained, padded}
 use Rattle.picky_modes.proofs.BlockLemmas.{block-front, block-is}
 use Rattle.picky_modes.proofs.Padding.{whole-padded}
@@ -33,7 +34,7 @@ same-front e v iv plain one other (suc k) pos hi fits h g =
     let last : block v (iv ++ one) k ≡ block v (iv ++ other) k =
     block-before v iv one k hi low ∙ ap (λ s. block v (iv ++ s) k) before ∙ sym (block-before v iv other k hi low_other) in
     let link : block v one k ≡ block v other k =
-    h.links k (omega (arith, h.size)) ∙ ap (λ b. e (xor (block v plain k) b)) last ∙ sym (g.links k (omega (arith, g.size))) in
+    h.links k (omega (arith, h.size)) ∙ ap (λ b. e (add_bytes (block v plain k) b)) last ∙ sym (g.links k (omega (arith, g.size))) in
     take-blocks v one k ∙ (λ i. before i ++ link i) ∙ sym (take-blocks v other k)
 
 pub IsCbc-one : (e : List ℕ → List ℕ) (v : ℕ) (iv text one other : List ℕ) → 0 < v → length iv ≡ v → IsCbc e v iv text one → IsCbc e v iv text other → one ≡ other

@@ -5,5 +5,4 @@ pub mod Decryption
 pub mod Registers
 pub mod Steps
 pub mod Wrapped
-pub mod Adding
 pub mod Determined

@@ -3,7 +3,8 @@ use Rattle.std.proofs.Common.{◌≡◌, ℕ, zero, suc, ◌+◌, ◌-◌, ◌*�
 use Rattle.std.specs.Int.{to_be_bytes, w64}
 use Rattle.std.proofs.lemmas.Nat.{mod_below}
 use Rattle.std.proofs.lemmas.List.{drop-drop, drop_at, length-append, length-drop, length-take-le, take-append-drop, take_all, take_at}
-use Rattle.picky_modes.specs.Blocks.{IsBlock, IsBytes, block, xor}
+use Rattle.picky_aes.specs.Cipher.{add_bytes}
+use Rattle.picky_modes.specs.Blocks.{IsBlock, IsBytes, block}
 use Rattle.picky_modes.specs.KeyWrap.{register, with_register, wrap_step}
 use Rattle.picky_modes.proofs.BlockLemmas.{IsBlock-block, IsBlock-xor, IsBytes-append, IsBytes-drop, IsBytes-take, block-front, block-is, block-last, length-block, length-xor, xor_twice}
 
@@ -67,13 +68,13 @@ with-one i a m r z b h =
 -- ---- one step
 -- the step on registers that are cut at its register
 pub step-laid : (e : List ℕ → List ℕ) (n t : ℕ) (a m r z : List ℕ) → IsCut (register n t) a m r
-    → wrap_step e n t (laid a m r z) ≡ laid (xor (take 8 (e (a ++ r))) (to_be_bytes w64 t)) m (drop 8 (e (a ++ r))) z
+    → wrap_step e n t (laid a m r z) ≡ laid (add_bytes (take 8 (e (a ++ r))) (to_be_bytes w64 t)) m (drop 8 (e (a ++ r))) z
 step-laid e n t a m r z h =
     let i : ℕ = register n t in
     let joined : block 8 (laid a m r z) 0 ++ block 8 (laid a m r z) i ≡ a ++ r = λ k. block-first i a m r z h k ++ block-one i a m r z h k in
-    ap (λ j. with_register (with_register (laid a m r z) i (drop 8 (e j))) 0 (xor (take 8 (e j)) (to_be_bytes w64 t))) joined
-    ∙ ap (λ s. with_register s 0 (xor (take 8 (e (a ++ r))) (to_be_bytes w64 t))) (with-one i a m r z (drop 8 (e (a ++ r))) h)
-    ∙ with-first a m (drop 8 (e (a ++ r))) z (xor (take 8 (e (a ++ r))) (to_be_bytes w64 t)) h.first
+    ap (λ j. with_register (with_register (laid a m r z) i (drop 8 (e j))) 0 (add_bytes (take 8 (e j)) (to_be_bytes w64 t))) joined
+    ∙ ap (λ s. with_register s 0 (add_bytes (take 8 (e (a ++ r))) (to_be_bytes w64 t))) (with-one i a m r z (drop 8 (e (a ++ r))) h)
+    ∙ with-first a m (drop 8 (e (a ++ r))) z (add_bytes (take 8 (e (a ++ r))) (to_be_bytes w64 t)) h.first
 
 -- a block is enciphered to a block
 abbrev pub KeepsBlocks : (List ℕ → List ℕ) → Type 0
@@ -161,39 +162,39 @@ IsBlock-step e n t size s keeps pos fits h =
     let r : List ℕ = block 8 s i in
     let z : List ℕ = drop (8 * i + 8) s in
     let made : IsBlock 16 (e (a ++ r)) = IsBlock-made e a r keeps cut.first cut.one in
-    let after : IsBlock size (laid (xor (take 8 (e (a ++ r))) (to_be_bytes w64 t)) m (drop 8 (e (a ++ r))) z) =
+    let after : IsBlock size (laid (add_bytes (take 8 (e (a ++ r))) (to_be_bytes w64 t)) m (drop 8 (e (a ++ r))) z) =
     IsBlock-laid i size _ m _ z (IsBlock-xor 8 _ _ (IsBlock-take _ made) (IsBlock-number t)) cut.cut.between cut.between (IsBlock-drop _ made) cut.rest cut.total in
-    let same : wrap_step e n t s ≡ laid (xor (take 8 (e (a ++ r))) (to_be_bytes w64 t)) m (drop 8 (e (a ++ r))) z =
+    let same : wrap_step e n t s ≡ laid (add_bytes (take 8 (e (a ++ r))) (to_be_bytes w64 t)) m (drop 8 (e (a ++ r))) z =
     ap (wrap_step e n t) cut.whole ∙ step-laid e n t a m r z cut.cut in
     let P : List ℕ → Type 0 = IsBlock size in
     subst P (sym same) after
 
 -- the code's step
 pub step-made : (e : List ℕ → List ℕ) (n t : ℕ) (s j b x m r q : List ℕ) → length b ≡ 16 → length x ≡ 8 → j ≡ block 8 s 0 ++ block 8 s (register n t) → b ≡ e j
-    → r ≡ with_register s (register n t) (take 8 (drop 8 b)) → x ≡ xor (take 8 b) m → m ≡ to_be_bytes w64 t → q ≡ with_register r 0 (take 8 (x ++ drop 8 b)) → q ≡ wrap_step e n t s
+    → r ≡ with_register s (register n t) (take 8 (drop 8 b)) → x ≡ add_bytes (take 8 b) m → m ≡ to_be_bytes w64 t → q ≡ with_register r 0 (take 8 (x ++ drop 8 b)) → q ≡ wrap_step e n t s
 step-made e n t s j b x m r q hb hx ej eb er ex em eq =
     let i : ℕ = register n t in
     let made : b ≡ e (block 8 s 0 ++ block 8 s i) = eb ∙ ap e ej in
     let low : take 8 (drop 8 b) ≡ drop 8 b = take_all 8 (drop 8 b) (omega (arith, length-drop 8 b)) in
-    let high : take 8 (x ++ drop 8 b) ≡ xor (take 8 b) (to_be_bytes w64 t) = take_at x (drop 8 b) 8 hx ∙ ex ∙ ap (xor (take 8 b)) em in
+    let high : take 8 (x ++ drop 8 b) ≡ add_bytes (take 8 b) (to_be_bytes w64 t) = take_at x (drop 8 b) 8 hx ∙ ex ∙ ap (add_bytes (take 8 b)) em in
     eq ∙ (λ k. with_register ((er ∙ ap (with_register s i) low) k) 0 (high k))
-    ∙ (λ k. with_register (with_register s i (drop 8 (made k))) 0 (xor (take 8 (made k)) (to_be_bytes w64 t)))
+    ∙ (λ k. with_register (with_register s i (drop 8 (made k))) 0 (add_bytes (take 8 (made k)) (to_be_bytes w64 t)))
 
 -- ---- one step undone
 -- the code's undoing of a step: d is deciphered from A less the step's number, and register i
 pub record IsUndone (e : List ℕ → List ℕ) (n t : ℕ) (s d q : List ℕ) : Type 0 where
-  pub made : e d ≡ xor (block 8 s 0) (to_be_bytes w64 t) ++ block 8 s (register n t)
+  pub made : e d ≡ add_bytes (block 8 s 0) (to_be_bytes w64 t) ++ block 8 s (register n t)
   pub size : length d ≡ 16
   pub after : q ≡ with_register (with_register s (register n t) (drop 8 d)) 0 (take 8 d)
 
 -- what it leaves
 undone-laid : (e : List ℕ → List ℕ) (n t : ℕ) (s d q a m r z : List ℕ) → IsUndone e n t s d q → s ≡ laid a m r z → IsCut (register n t) a m r
-    → (q ≡ laid (take 8 d) m (drop 8 d) z) × (e d ≡ xor a (to_be_bytes w64 t) ++ r)
+    → (q ≡ laid (take 8 d) m (drop 8 d) z) × (e d ≡ add_bytes a (to_be_bytes w64 t) ++ r)
 undone-laid e n t s d q a m r z h es cut =
     let i : ℕ = register n t in (
       h.after ∙ ap (λ l. with_register (with_register l i (drop 8 d)) 0 (take 8 d)) es
           ∙ ap (λ l. with_register l 0 (take 8 d)) (with-one i a m r z (drop 8 d) cut) ∙ with-first a m (drop 8 d) z (take 8 d) cut.first,
-      h.made ∙ (λ k. xor ((ap (λ l. block 8 l 0) es ∙ block-first i a m r z cut) k) (to_be_bytes w64 t) ++ (ap (λ l. block 8 l i) es ∙ block-one i a m r z cut) k),
+      h.made ∙ (λ k. add_bytes ((ap (λ l. block 8 l 0) es ∙ block-first i a m r z cut) k) (to_be_bytes w64 t) ++ (ap (λ l. block 8 l i) es ∙ block-one i a m r z cut) k),
     )
 
 pub step-back : (e : List ℕ → List ℕ) (n t : ℕ) (s d q : List ℕ) → 0 < n → 8 * n + 8 ≤ length s → IsUndone e n t s d q → wrap_step e n t q ≡ s
@@ -211,11 +212,11 @@ step-back e n t s d q pos fits h =
       between = split.1.between;
       one = length-drop 8 d ∙ omega (arith, h.size);
     } in
-    let eight : length (xor a number) ≡ 8 = length-xor a number split.1.first ∙ split.1.first in
-    let joined : e (take 8 d ++ drop 8 d) ≡ xor a number ++ r = ap e (take-append-drop 8 d) ∙ left.1 in
-    let high : xor (take 8 (e (take 8 d ++ drop 8 d))) number ≡ a =
-    ap (λ b. xor (take 8 b) number) joined ∙ ap (λ l. xor l number) (take_at (xor a number) r 8 eight) ∙ xor_twice a number split.1.first in
-    let low : drop 8 (e (take 8 d ++ drop 8 d)) ≡ r = ap (drop 8) joined ∙ drop_at (xor a number) r 8 eight in
+    let eight : length (add_bytes a number) ≡ 8 = length-xor a number split.1.first ∙ split.1.first in
+    let joined : e (take 8 d ++ drop 8 d) ≡ add_bytes a number ++ r = ap e (take-append-drop 8 d) ∙ left.1 in
+    let high : add_bytes (take 8 (e (take 8 d ++ drop 8 d))) number ≡ a =
+    ap (λ b. add_bytes (take 8 b) number) joined ∙ ap (λ l. add_bytes l number) (take_at (add_bytes a number) r 8 eight) ∙ xor_twice a number split.1.first in
+    let low : drop 8 (e (take 8 d ++ drop 8 d)) ≡ r = ap (drop 8) joined ∙ drop_at (add_bytes a number) r 8 eight in
     ap (wrap_step e n t) left.0 ∙ step-laid e n t (take 8 d) m (drop 8 d) z cut ∙ (λ k. laid (high k) m (low k) z) ∙ sym split.0
 
 -- registers from which the step gives s are those that it is undone to, where d is the one block that is enciphered so
@@ -233,13 +234,13 @@ step-alone e n t s d q x keeps pos fits h alone block_x ex =
     let made : IsBlock 16 b = IsBlock-made e a r keeps cut.first cut.one in
     let top : IsBlock 8 (take 8 b) = IsBlock-take b made in
     let bottom : IsBlock 8 (drop 8 b) = IsBlock-drop b made in
-    let whole : s ≡ laid (xor (take 8 b) number) m (drop 8 b) z = sym ex ∙ ap (wrap_step e n t) cut.whole ∙ step-laid e n t a m r z cut.cut in
-    let sizes : IsCut i (xor (take 8 b) number) m (drop 8 b) = record {
+    let whole : s ≡ laid (add_bytes (take 8 b) number) m (drop 8 b) z = sym ex ∙ ap (wrap_step e n t) cut.whole ∙ step-laid e n t a m r z cut.cut in
+    let sizes : IsCut i (add_bytes (take 8 b) number) m (drop 8 b) = record {
       first = length-xor (take 8 b) number top.size ∙ top.size;
       between = cut.cut.between;
       one = bottom.size;
     } in
-    let left = undone-laid e n t s d q (xor (take 8 b) number) m (drop 8 b) z h whole sizes in
+    let left = undone-laid e n t s d q (add_bytes (take 8 b) number) m (drop 8 b) z h whole sizes in
     let same : e d ≡ b = left.1 ∙ ap (λ l. l ++ drop 8 b) (xor_twice (take 8 b) number top.size) ∙ take-append-drop 8 b in
     let found : a ++ r ≡ d = alone (a ++ r) (IsBlock-join 8 8 a r cut.first cut.one) (sym same) in
     let high : a ≡ take 8 d = sym (take_at a r 8 cut.first.size) ∙ ap (take 8) found in
@@ -247,7 +248,7 @@ step-alone e n t s d q x keeps pos fits h alone block_x ex =
     cut.whole ∙ (λ k. laid (high k) m (low k) z) ∙ sym left.0
 
 -- the code's undoing is that of the step
-pub undone-made : (e : List ℕ → List ℕ) (n t : ℕ) (s j x m d r q : List ℕ) → 8 * register n t + 8 ≤ length s → length d ≡ 16 → j ≡ block 8 s 0 ++ block 8 s (register n t) → x ≡ xor (take 8 j) m → m ≡ to_be_bytes w64 t
+pub undone-made : (e : List ℕ → List ℕ) (n t : ℕ) (s j x m d r q : List ℕ) → 8 * register n t + 8 ≤ length s → length d ≡ 16 → j ≡ block 8 s 0 ++ block 8 s (register n t) → x ≡ add_bytes (take 8 j) m → m ≡ to_be_bytes w64 t
     → e d ≡ x ++ drop 8 j → r ≡ with_register s (register n t) (take 8 (drop 8 d)) → q ≡ with_register r 0 (take 8 d) → IsUndone e n t s d q
 undone-made e n t s j x m d r q fits hd ej ex em ed er eq =
     let i : ℕ = register n t in
@@ -256,7 +257,7 @@ undone-made e n t s j x m d r q fits hd ej ex em ed er eq =
     let low : drop 8 j ≡ block 8 s i = ap (drop 8) ej ∙ drop_at (block 8 s 0) (block 8 s i) 8 a_size in
     let rest : take 8 (drop 8 d) ≡ drop 8 d = take_all 8 (drop 8 d) (omega (arith, length-drop 8 d)) in
     record {
-      made = ed ∙ (λ k. (ex ∙ (λ l. xor (high l) (em l))) k ++ low k);
+      made = ed ∙ (λ k. (ex ∙ (λ l. add_bytes (high l) (em l))) k ++ low k);
       size = hd;
       after = eq ∙ ap (λ l. with_register l 0 (take 8 d)) (er ∙ ap (with_register s i) rest);
     }

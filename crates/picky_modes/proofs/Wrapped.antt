@@ -1,9 +1,7 @@
 -- The wrapped key and the key that it holds, from the registers.
-use Rattle.std.proofs.Common.{◌≡◌, ℕ, ◌+◌, ◌-◌, ◌*◌, ◌/◌, ◌%◌, ◌≤◌, Bool, true, false, not, List, ◌++◌, length, take, drop, refl, sym, ap, ◌∙◌, arith, inl, inr}
-use Rattle.std.specs.Str.{bytes_eq}
+use Rattle.std.proofs.Common.{◌≡◌, ℕ, ◌+◌, ◌-◌, ◌*◌, ◌/◌, ◌%◌, ◌≤◌, List, ◌++◌, length, take, drop, sym, ap, ◌∙◌, arith, inl, inr}
 use Rattle.std.proofs.lemmas.Bool.{cases_lt}
 use Rattle.std.proofs.lemmas.List.{length-append, length-drop, take-append-drop, take_all, take_at}
-use Rattle.std.proofs.lemmas.Slice.Eq.{bytes_eq-Decides}
 use Rattle.picky_modes.specs.Blocks.{IsBlock, IsBytes}
 use Rattle.picky_modes.specs.KeyWrap.{initial_value, wrap_steps, wrapped_key}
 use Rattle.picky_modes.proofs.BlockLemmas.{IsBytes-append}
@@ -84,17 +82,6 @@ key-only e sealed before plain keeps h bytes made =
     h.alone (initial_value ++ plain) (record { size = start.size ∙ size; bytes = start.bytes }) steps
 
 -- ---- the check
-holds-not : (b : Bool) → not b ≡ false → b ≡ true
-holds-not true h = refl
-holds-not false h = sym h
-
-pub check-passed : (front : List ℕ) (b : Bool) → b ≡ not (bytes_eq front initial_value) → b ≡ false → front ≡ initial_value
-check-passed front b h passed = (bytes_eq-Decides front initial_value).0 (holds-not (bytes_eq front initial_value) (sym h ∙ passed))
-
--- the check passes where the registers begin with the initial value
-pub check-passes : (plain before read : List ℕ) (b : Bool) → initial_value ++ plain ≡ before → read ≡ before → b ≡ not (bytes_eq (take 8 read) initial_value) → b ≡ false
-check-passes plain before read b h er hb = hb ∙ ap (λ l. not (bytes_eq (take 8 l) initial_value)) (er ∙ sym h)
-
 -- the key's bytes, as they are read
 pub key-read : (plain read before : List ℕ) → read ≡ before → plain ≡ take (length read - 8) (drop 8 read) → plain ≡ drop 8 before
 key-read plain read before er h = h ∙ take_all (length read - 8) (drop 8 read) (omega (arith, length-drop 8 read)) ∙ ap (drop 8) er

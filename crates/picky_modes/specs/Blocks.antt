@@ -1,5 +1,5 @@
--- Blocks of bytes and their exclusive or, as the modes of operation use them (NIST SP 800-38A, 4).
-use Rattle.std.specs.Prelude.{◌≡◌, ℕ, ◌+◌, ◌*◌, ◌<◌, List, [], ◌∷◌, length, slice_index, slice_range, bit_xor}
+-- Blocks of bytes, as the modes of operation use them (NIST SP 800-38A, 4).
+use Rattle.std.specs.Prelude.{◌≡◌, ℕ, ◌+◌, ◌*◌, ◌<◌, List, length, slice_index, slice_range}
 
 -- each entry is a byte
 abbrev pub IsBytes : List ℕ → Type 0
@@ -13,9 +13,3 @@ pub record IsBlock (v : ℕ) (xs : List ℕ) : Type 0 where
 -- the block number k, counted from 0, of the blocks of v bytes that xs is made of
 abbrev pub block : ℕ → List ℕ → ℕ → List ℕ
 block v xs k = slice_range xs (v * k) (v * k + v)
-
--- the exclusive or of two blocks, byte by byte
-abbrev pub xor : List ℕ → List ℕ → List ℕ
-xor [] ys = []
-xor (x ∷ xs) [] = []
-xor (x ∷ xs) (y ∷ ys) = bit_xor x y ∷ xor xs ys

@@ -1,6 +1,7 @@
 -- Cipher block chaining (NIST SP 800-38A, 6.2) and the padding of PKCS #7 (RFC 5652, 6.3), over a block cipher e with blocks of v bytes.
 use Rattle.std.specs.Prelude.{◌≡◌, ℕ, ◌-◌, ◌*◌, ◌%◌, ◌<◌, ◌≤◌, List, ◌++◌, length, take, replicate, Option, Some, None, IfSome}
-use Rattle.picky_modes.specs.Blocks.{IsBytes, block, xor}
+use Rattle.picky_aes.specs.Cipher.{add_bytes}
+use Rattle.picky_modes.specs.Blocks.{IsBytes, block}
 
 -- the text and after it 1 to v bytes, each of which is their number, so that whole blocks come out
 abbrev pub padded : ℕ → List ℕ → List ℕ
@@ -9,7 +10,7 @@ padded v text = text ++ replicate (v - length text % v) (v - length text % v)
 -- sealed is the chain of plain's blocks: each is what e makes of the plain block and the sealed block before it, and of iv for the first
 pub record IsChained (e : List ℕ → List ℕ) (v : ℕ) (iv plain sealed : List ℕ) : Type 0 where
   pub size : length sealed ≡ length plain
-  pub links : (k : ℕ) → v * k < length sealed → block v sealed k ≡ e (xor (block v plain k) (block v (iv ++ sealed) k))
+  pub links : (k : ℕ) → v * k < length sealed → block v sealed k ≡ e (add_bytes (block v plain k) (block v (iv ++ sealed) k))
 
 -- sealed is the encryption of the text: the chain of the padded text
 abbrev pub IsCbc : (List ℕ → List ℕ) → ℕ → List ℕ → List ℕ → List ℕ → Type 0

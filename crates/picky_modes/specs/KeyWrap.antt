@@ -1,7 +1,8 @@
 -- Key wrap (RFC 3394, 2.2.1) under a block cipher e with blocks of 16 bytes: a list of 8-byte registers A, R[1], .., R[n] goes through 6n steps.
 use Rattle.std.specs.Prelude.{ℕ, zero, suc, ◌+◌, ◌-◌, ◌*◌, ◌/◌, ◌%◌, List, ◌++◌, length, take, drop, replicate}
 use Rattle.std.specs.Int.{to_be_bytes, w64}
-use Rattle.picky_modes.specs.Blocks.{block, xor}
+use Rattle.picky_aes.specs.Cipher.{add_bytes}
+use Rattle.picky_modes.specs.Blocks.{block}
 
 -- the register that step t of a wrap of n registers changes: 1, .., n, six times over
 abbrev pub register : ℕ → ℕ → ℕ
@@ -16,7 +17,7 @@ abbrev pub wrap_step : (List ℕ → List ℕ) → ℕ → ℕ → List ℕ → 
 wrap_step e n t s =
     let i : ℕ = register n t in
     let b : List ℕ = e (block 8 s 0 ++ block 8 s i) in
-    with_register (with_register s i (drop 8 b)) 0 (xor (take 8 b) (to_be_bytes w64 t))
+    with_register (with_register s i (drop 8 b)) 0 (add_bytes (take 8 b) (to_be_bytes w64 t))
 
 -- the registers after t steps
 unfoldable pub wrap_steps : (List ℕ → List ℕ) → ℕ → List ℕ → ℕ → List ℕ

@@ -2,4 +2,3 @@ pub mod Blocks
 pub mod Cbc
 pub mod KeyWrap
 pub mod Pbes1
-pub mod Repeated

@@ -1,6 +1,7 @@
 // What the modes need of a block cipher, and the exclusive or of blocks.
 ghost use Rattle.std.specs.Prelude.{◌≡◌, ◌<◌, ◌≤◌, ℕ, List, length};
-ghost use Rattle.picky_modes.specs.Blocks.{IsBlock, xor};
+ghost use Rattle.picky_aes.specs.Cipher.{add_bytes};
+ghost use Rattle.picky_modes.specs.Blocks.{IsBlock};
 
 use picky_aes::Aes;
 
@@ -54,7 +55,7 @@ impl BlockCipher for Aes {
 // Adds `mask` to the block.
 pub(crate) fn xor_into(block: &mut [u8], mask: &[u8])
     requires { length block.old ≡ length mask.now }
-    ensures { block.new ≡ xor block.old mask.now }
+    ensures { block.new ≡ add_bytes block.old mask.now }
 {
     for i in 0..block.len() {
         block[i] ^= mask[i];

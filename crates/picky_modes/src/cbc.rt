@@ -1,7 +1,7 @@
 // Cipher block chaining over any block cipher, and the calls under AES.
-ghost use Rattle.picky_aes.specs.Cipher.{cipher};
-ghost use Rattle.std.specs.Prelude.{◌≡◌, ◌<◌, ◌≤◌, ◌%◌, ℕ, List, length, take, IfOk, IfSome};
-ghost use Rattle.picky_modes.specs.Blocks.{IsBlock, IsBytes, xor};
+ghost use Rattle.picky_aes.specs.Cipher.{add_bytes, cipher};
+ghost use Rattle.std.specs.Prelude.{◌≡◌, ◌<◌, ◌≤◌, ◌+◌, ◌-◌, ◌%◌, ℕ, List, length, take, IfOk, IfSome};
+ghost use Rattle.picky_modes.specs.Blocks.{IsBlock, IsBytes};
 ghost use Rattle.picky_modes.specs.Cbc.{IsCbc, IsChained, IsDecryption, IsWholeBlocks, padded};
 
 use crate::block_cipher::{BlockCipher, xor_into};
@@ -13,7 +13,7 @@ fn seal_block<C: BlockCipher>(cipher: &C, chain: &mut [u8], block: &mut [u8])
     requires ready { C.is_ready cipher.now }
     requires size { length chain.old ≡ C.size cipher.now }
     requires same { length block.old ≡ length chain.old }
-    ensures sealed { block.new ≡ C.enciphered cipher.now (xor block.old chain.old) }
+    ensures sealed { block.new ≡ C.enciphered cipher.now (add_bytes block.old chain.old) }
     ensures chain { chain.new ≡ block.new }
 {
     xor_into(block, chain);
@@ -28,8 +28,8 @@ fn open_block<C: BlockCipher>(cipher: &C, chain: &mut [u8], block: &mut [u8])
     requires same { length block.old ≡ length chain.old }
     requires small { length chain.old ≤ 16 }
     requires bytes { IsBytes chain.old }
-    ensures back { C.enciphered cipher.now (xor block.new chain.old) ≡ block.old }
-    ensures alone { (x : List ℕ) → IsBlock (C.size cipher.now) x → C.enciphered cipher.now (xor x chain.old) ≡ block.old → x ≡ block.new }
+    ensures back { C.enciphered cipher.now (add_bytes block.new chain.old) ≡ block.old }
+    ensures alone { (x : List ℕ) → IsBlock (C.size cipher.now) x → C.enciphered cipher.now (add_bytes x chain.old) ≡ block.old → x ≡ block.new }
     ensures chain { chain.new ≡ block.old }
 {
     let mut room = [0; 16];
@@ -84,7 +84,8 @@ fn padded_text(alloc: Global, size: usize, text: &[u8]) -> Result<Vec<u8>, Alloc
     Ok(padded)
 }
 
-// The bytes before the padding to whole blocks of `size` bytes, where there is such a padding.
+// The bytes before the padding to whole blocks of `size` bytes, where there is such a padding. All of the last block is
+// looked at, whatever its bytes are.
 fn text_length(size: usize, plain: &[u8]) -> Option<usize>
     requires some { 0 < size }
     requires small { size ≤ 16 }
@@ -93,16 +94,15 @@ fn text_length(size: usize, plain: &[u8]) -> Option<usize>
     ensures every { (text : List ℕ) → plain.now ≡ padded size text → result ≡ Some (length text) }
 {
     let count = plain[plain.len() - 1] as usize;
-    if count == 0 || count > size {
-        return None;
+    let mut right = (count != 0) & (count <= size);
+    for i in plain.len() - size..plain.len() {
+        right &= (plain.len() - i > count) | (plain[i] as usize == count);
     }
-    let length = plain.len() - count;
-    for i in length..plain.len() {
-        if plain[i] as usize != count {
-            return None;
-        }
+    if right {
+        Some(plain.len() - count)
+    } else {
+        None
     }
-    Some(length)
 }
 
 // The CBC encryption of the padded text, behind the block `chain`.
@@ -116,7 +116,8 @@ pub(crate) fn sealed_text<C: BlockCipher>(
     requires size { length chain.old ≡ C.size cipher.now }
     requires some { 0 < length chain.old }
     requires small { length chain.old ≤ 16 }
-    ensures { IfOk result (λ v. IsCbc (C.enciphered cipher.now) (length chain.old) chain.old text.now v.items) }
+    ensures sealed { IfOk result (λ v. IsCbc (C.enciphered cipher.now) (length chain.old) chain.old text.now v.items) }
+    ensures size { IfOk result (λ v. length v.items ≡ length text.now + (length chain.old - length text.now % length chain.old)) }
 {
     let mut sealed = padded_text(alloc, chain.len(), text)?;
     seal_blocks(cipher, chain, sealed.as_mut_slice());
@@ -151,7 +152,8 @@ pub fn cbc_encrypt(
     iv: &[u8; 16],
     text: &[u8],
 ) -> Result<Vec<u8>, AllocError>
-    ensures { IfOk result (λ v. IsCbc (cipher aes.now) 16 iv.now text.now v.items) }
+    ensures sealed { IfOk result (λ v. IsCbc (cipher aes.now) 16 iv.now text.now v.items) }
+    ensures size { IfOk result (λ v. length v.items ≡ length text.now + (16 - length text.now % 16)) }
 {
     let mut chain = *iv;
     sealed_text(alloc, aes, &mut chain, text)

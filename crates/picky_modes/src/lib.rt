@@ -7,13 +7,9 @@
 #![tactic(auto)]
 
 mod block_cipher;
-#[cfg(test)]
-mod cases;
 mod cbc;
 pub mod laws;
 mod pbes1;
-#[cfg(test)]
-mod tests;
 mod wrap;
 
 pub use cbc::{cbc_decrypt, cbc_encrypt};

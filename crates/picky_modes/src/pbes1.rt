@@ -1,5 +1,5 @@
 // CBC over the eight-byte block ciphers of PBES1, which the caller brings.
-ghost use Rattle.std.specs.Prelude.{◌≡◌, Bool, false, IsTrue, List, ℕ, length, IfOk};
+ghost use Rattle.std.specs.Prelude.{◌≡◌, ◌+◌, ◌-◌, ◌%◌, Bool, false, IsTrue, List, ℕ, length, IfOk};
 ghost use Rattle.picky_modes.specs.Blocks.{IsBlock};
 ghost use Rattle.picky_modes.specs.Cbc.{IsCbc, IsDecryption};
 ghost use Rattle.picky_modes.specs.Pbes1.{key_size};
@@ -115,7 +115,8 @@ pub fn pbes1_cbc_encrypt<B: Pbes1Blocks>(
 ) -> Result<Vec<u8>, AllocError>
     requires served { IsTrue (B.serving blocks.now cipher) }
     requires fits { length key.now ≡ key_size cipher }
-    ensures { IfOk result (λ v. IsCbc (B.encrypted blocks.now cipher key.now) 8 iv.now text.now v.items) }
+    ensures sealed { IfOk result (λ v. IsCbc (B.encrypted blocks.now cipher key.now) 8 iv.now text.now v.items) }
+    ensures size { IfOk result (λ v. length v.items ≡ length text.now + (8 - length text.now % 8)) }
 {
     let keyed = Keyed {
         blocks,

@@ -1,13 +1,14 @@
 // Key wrap under AES (RFC 3394).
 ghost use Rattle.std.specs.Prelude.{◌≡◌, ◌<◌, ◌≤◌, ◌+◌, ◌-◌, ◌*◌, ◌/◌, ◌%◌, ◌^◌, ℕ, List, ◌++◌, length, IfOk, IfSome, IsSomeAnd};
 ghost use Rattle.std.specs.Int.{to_be_bytes, w64};
-ghost use Rattle.picky_aes.specs.Cipher.{cipher};
-ghost use Rattle.picky_modes.specs.Blocks.{IsBlock, IsBytes, block, xor};
+ghost use Rattle.picky_aes.specs.Cipher.{add_bytes, cipher};
+ghost use Rattle.picky_modes.specs.Blocks.{IsBlock, IsBytes, block};
 ghost use Rattle.picky_modes.specs.KeyWrap.{with_register, wrap_step, wrap_steps, wrapped_key};
 
 use crate::block_cipher::xor_into;
 use picky_aes::Aes;
 use picky_aes::laws::encrypts_to_blocks;
+use picky_contract::equal_bytes;
 use std::alloc::{AllocError, Global};
 
 // The initial value of A (2.2.3.1).
@@ -117,12 +118,13 @@ pub fn key_unwrap(alloc: Global, aes: &Aes, wrapped: &[u8]) -> Result<Option<Vec
     requires low { 24 ≤ length wrapped.now }
     requires high { length wrapped.now ≤ 1024 }
     ensures key { IfOk result (λ r. IfSome r (λ v. wrapped_key (cipher aes.now) v.items ≡ wrapped.now)) }
+    ensures size { IfOk result (λ r. IfSome r (λ v. length v.items + 8 ≡ length wrapped.now)) }
     ensures every { (plain : List ℕ) → IsBytes plain → wrapped_key (cipher aes.now) plain ≡ wrapped.now → IfOk result (λ r. IsSomeAnd r (λ v. v.items ≡ plain)) }
 {
     encrypts_to_blocks(aes);
     let mut registers = Vec::from_slice(alloc, wrapped)?;
     unwrap_registers(aes, registers.as_mut_slice(), wrapped.len() / 8 - 1);
-    if registers[..8] != INITIAL_VALUE[..] {
+    if !equal_bytes(&registers[..8], &INITIAL_VALUE) {
         return Ok(None);
     }
     Ok(Some(Vec::from_slice(alloc, &registers[8..])?))

@@ -39,6 +39,23 @@ impl Answer {
         Ok(Answer::Text(String::from_str(alloc, text)?))
     }
 
+    /// A text of many lines as one: LF is `\n`, CR `\r` and a backslash `\\`; `-` is none.
+    pub fn lines(alloc: Global, text: &str) -> Result<Answer> {
+        if text.is_empty() {
+            return Ok(Answer::Word("-"));
+        }
+        let mut line = String::new(alloc);
+        for character in text.chars() {
+            match character {
+                '\n' => line.push_str("\\n")?,
+                '\r' => line.push_str("\\r")?,
+                '\\' => line.push_str("\\\\")?,
+                other => line.push(other)?,
+            }
+        }
+        Ok(Answer::Text(line))
+    }
+
     /// What `{:?}` prints.
     pub fn debug<T: fmt::Debug>(alloc: Global, value: &T) -> Result<Answer> {
         Ok(Answer::Text(format!(in alloc; "{value:?}")?))

@@ -3,6 +3,7 @@
 //! - [`Words`]: the arguments of a row.
 //! - [`Answer`]: what a call gives.
 //! - [`Calls`], [`answer_rows`]: the calls that a program knows, and its whole standard input answered by them.
+//! - [`HostCalls`], [`answer_host_rows`]: the same, where calls reach the files of the folder that the program runs in.
 #![tactic(auto)]
 
 mod answer;
@@ -20,14 +21,51 @@ pub trait Calls {
     fn answer(alloc: Global, notion: &str, call: &str, words: &mut Words<'_>) -> Result<Answer>;
 }
 
-// What a row's call gives: of `NAME: NOTION.CALL WORD..`.
-fn answer_of<C: Calls>(alloc: Global, row: &str) -> Result<Answer> {
+/// The calls that a program knows, with the runtime for those that reach files.
+pub trait HostCalls {
+    /// What the call `notion.call` gives of the words behind it, which it takes all.
+    fn answer(rt: &HostRuntime, notion: &str, call: &str, words: &mut Words<'_>) -> Result<Answer>;
+}
+
+// The notion, the call and the words of a row `NAME: NOTION.CALL WORD..`.
+fn asked(row: &str) -> (&str, &str, Words<'_>) {
     let (_, asked) = row.split_once(": ").unwrap_or(("", row));
     let mut words = Words::new(asked);
     let (notion, call) = words.next().split_once('.').unwrap_or(("", ""));
+    (notion, call, words)
+}
+
+fn answer_of<C: Calls>(alloc: Global, row: &str) -> Result<Answer> {
+    let (notion, call, mut words) = asked(row);
     let answer = C::answer(alloc, notion, call, &mut words)?;
     words.end()?;
     Ok(answer)
+}
+
+fn host_answer_of<C: HostCalls>(rt: &HostRuntime, row: &str) -> Result<Answer> {
+    let (notion, call, mut words) = asked(row);
+    let answer = C::answer(rt, notion, call, &mut words)?;
+    words.end()?;
+    Ok(answer)
+}
+
+// An empty line or a comment.
+fn is_copied(row: &str) -> bool {
+    row.is_empty() || row.starts_with('#')
+}
+
+// Prints a row with its answer or its error, and says whether it has an answer.
+fn tell(rt: &HostRuntime, row: &str, answer: Result<Answer>) -> Result<bool> {
+    match answer {
+        Ok(answer) => {
+            println!(rt; "{row} => {answer}")?;
+            Ok(true)
+        }
+        Err(cause) => {
+            println!(rt; "{row} => error: {cause}")?;
+            Ok(false)
+        }
+    }
 }
 
 /// Answers the rows of the standard input, each by the row itself, ` => ` and what its call gives.
@@ -38,16 +76,24 @@ pub fn answer_rows<C: Calls>(rt: &HostRuntime) -> Result<ExitCode> {
     let mut status = 0;
     for row in rt.lines(rt.alloc()) {
         let row = row?;
-        if row.is_empty() || row.starts_with('#') {
+        if is_copied(&row) {
             println!(rt; "{row}")?;
-            continue;
+        } else if !tell(rt, &row, answer_of::<C>(rt.alloc(), &row))? {
+            status = 1;
         }
-        match answer_of::<C>(rt.alloc(), row.as_str()) {
-            Ok(answer) => println!(rt; "{row} => {answer}")?,
-            Err(cause) => {
-                println!(rt; "{row} => error: {cause}")?;
-                status = 1;
-            }
+    }
+    Ok(ExitCode::from(status))
+}
+
+/// Answers the rows of the standard input, as [`answer_rows`], by calls that reach files.
+pub fn answer_host_rows<C: HostCalls>(rt: &HostRuntime) -> Result<ExitCode> {
+    let mut status = 0;
+    for row in rt.lines(rt.alloc()) {
+        let row = row?;
+        if is_copied(&row) {
+            println!(rt; "{row}")?;
+        } else if !tell(rt, &row, host_answer_of::<C>(rt, &row))? {
+            status = 1;
         }
     }
     Ok(ExitCode::from(status))

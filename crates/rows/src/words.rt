@@ -8,6 +8,16 @@ pub struct Words<'a> {
     rest: &'a str,
 }
 
+// What stands for a character behind a backslash.
+fn escape(character: char) -> Result<char> {
+    match character {
+        'n' => Ok('\n'),
+        'r' => Ok('\r'),
+        '\\' => Ok('\\'),
+        _ => bail!("no such escape"),
+    }
+}
+
 impl<'a> Words<'a> {
     /// The words of a text.
     pub fn new(text: &'a str) -> Words<'a> {
@@ -26,6 +36,26 @@ impl<'a> Words<'a> {
         let rest = self.rest;
         self.rest = "";
         rest
+    }
+
+    /// All that is left, as a text of many lines: `\n` is LF, `\r` CR and `\\` a backslash.
+    pub fn lines(&mut self, alloc: Global) -> Result<String> {
+        let mut text = String::new(alloc);
+        let mut escaped = false;
+        for character in self.rest().chars() {
+            if escaped {
+                text.push(escape(character)?)?;
+                escaped = false;
+            } else if character == '\\' {
+                escaped = true;
+            } else {
+                text.push(character)?;
+            }
+        }
+        if escaped {
+            bail!("a backslash stands last");
+        }
+        Ok(text)
     }
 
     /// Bytes in hex, `-` for none.

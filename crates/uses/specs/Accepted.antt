@@ -34,7 +34,7 @@ pub record Accepted (signs : Relation) (key : PublicKeyKind) (date : JwtDate) (t
 
 -- a refusal of the signed token, as one of claims
 abbrev pub of_token : JwsFault → JwtFault
-of_token fault = jws (Some fault)
+of_token fault = jws fault
 
 -- the conditions of a text, in their order
 unfoldable pub accepted_table : Relation → PublicKeyKind → JwtDate → List ℕ → Table Data JwtFault

@@ -1,12 +1,15 @@
 -- The laws of one value in another.
-use Rattle.std.proofs.Common.{◌≡◌, ◌≢◌, ℕ, ◌+◌, ◌%◌, ◌^◌, ◌<◌, eqb, List, [], ◌∷◌, ◌++◌, length, Ok, refl, ap, subst, ◌∙◌, arith, inl, inr}
+use Rattle.std.proofs.Common.{◌≡◌, ◌≢◌, ℕ, ◌+◌, ◌%◌, ◌^◌, ◌<◌, eqb, List, [], ◌∷◌, ◌++◌, length, Ok, Err, refl, ap, subst, ◌∙◌, arith, inl, inr}
 use Rattle.picky_asn1_tag.specs.declared.tag.Tag.{Tag}
+use Rattle.picky_der.specs.declared.fault.DerError.{DerError}
+use Rattle.picky_der.specs.declared.fault.DerError.TheVariants.{Truncated}
 use Rattle.picky_der.specs.Length.{IsBytes, TailIsBytes, value_of}
 use Rattle.picky_der.specs.Reading.{◌>>=◌, nested_at, nested_bits_at, end_at}
 use Rattle.picky_der.specs.Form.{Form, Readable, Writable, Tagged, IsValue, Takes, GivesOrTooDeep}
 use Rattle.picky_der.specs.laws.Steps.{ok_is, bind_ok, pair_fst, pair_snd}
 use Rattle.picky_der.specs.laws.Lengths.{IsBytes-rest, TailIsBytes-of}
 use Rattle.picky_der.specs.laws.Headers.{IsValue-same, IsValue-of, length-value_of, IsBytes-contents, BeginsBy-value, nested_again, nested_takes, nested_shorter, nested_bits_again, nested_bits_takes, nested_bits_shorter, end_takes, end_again, eqb_same}
+use Rattle.picky_der.specs.laws.Prefixes.{Stays, bind_err, kept_fault, then_stays, nested_goes_on, nested_stays, nested_cut, nested_bits_goes_on, nested_bits_stays, nested_bits_cut}
 use Rattle.picky_der.specs.laws.Whole.{taken_whole, again_alone}
 use Rattle.picky_asn1_wrapper.specs.Enclosed.{alone_in, enclosed_at, SpellsEnclosed, enclosed_form, bits_at, SpellsBits, bits_form}
 
@@ -27,6 +30,14 @@ module _ {X : Type 0} (f : Form X) (law : Readable f) where
       elim (again_alone f law depth c x formed p) [
         | inl g ↦ inl (rw (g, end_again) refl)
         | inr g ↦ inr (rw g refl)
+      ]
+
+  -- a fault in the contents is the same whatever bytes are behind
+  alone_kept : (depth : ℕ) (c rest other : List ℕ) (e : DerError) → alone_in (f.reading depth) (c, rest) ≡ Err e → alone_in (f.reading depth) (c, other) ≡ Err e
+  alone_kept depth c rest other e h =
+      elim (bind_err (f.reading depth c) (λ x. end_at x.1 >>= λ _. Ok (x.0, rest)) e h) [
+        | inl k ↦ rw k refl
+        | inr k ↦ rw k.1 (kept_fault (end_at k.0.1) (λ _. k.0.0) rest other e k.2)
       ]
 
   -- two spellings of the same bytes are of one value
@@ -64,6 +75,15 @@ module _ {X : Type 0} (f : Form X) (law : Readable f) where
         let n = bind_ok (end_at w.0.1) (λ _. Ok (w.0.0, v.0.1)) (x, rest) w.2 in
         omega (arith, nested_shorter tag depth bytes v.0.0 v.0.1 v.1, ap length (pair_snd _ _ (ok_is (w.0.0, v.0.1) (x, rest) n.2)))
 
+    enclosed_cut : (depth : ℕ) (front back : List ℕ) (x : X) → f.in_form x → SpellsEnclosed tag f.Spells (front ++ back) x → back ≢ [] → enclosed_at tag f.reading depth front ≡ Err Truncated
+    unfolding enclosed_at
+    enclosed_cut depth front back x formed p some = rw (nested_cut tag depth p.contents front back p.value some) refl
+
+    enclosed_stays : (depth : ℕ) → Stays (enclosed_at tag f.reading depth)
+    unfolding enclosed_at
+    enclosed_stays depth =
+        then_stays (nested_at tag depth) (λ v. alone_in (f.reading (depth + 1)) v) (nested_goes_on tag depth) (nested_stays tag depth) (alone_kept (depth + 1))
+
     pub enclosed_readable : Readable (enclosed_form tag f)
     enclosed_readable = record {
       one_value = λ s x _ p. record { tag = tag; contents = p.contents; value = p.value };
@@ -74,6 +94,8 @@ module _ {X : Type 0} (f : Form X) (law : Readable f) where
       again = enclosed_again;
       shorter = enclosed_shorter;
       first = λ s x _ p. BeginsBy-value (λ b. eqb b tag.0) tag p.contents s (eqb_same tag.0) p.value;
+      cut = enclosed_cut;
+      stays = enclosed_stays;
     }
 
     -- ---- a value in a BIT STRING
@@ -109,6 +131,15 @@ module _ {X : Type 0} (f : Form X) (law : Readable f) where
     same_rest : (c d : List ℕ) → 0 ∷ c ≡ 0 ∷ d → c ≡ d
     same_rest c d e = cc
 
+    bits_cut : (depth : ℕ) (front back : List ℕ) (x : X) → f.in_form x → SpellsBits tag f.Spells (front ++ back) x → back ≢ [] → bits_at tag f.reading depth front ≡ Err Truncated
+    unfolding bits_at
+    bits_cut depth front back x formed p some = rw (nested_bits_cut tag depth p.contents front back p.value some) refl
+
+    bits_stays : (depth : ℕ) → Stays (bits_at tag f.reading depth)
+    unfolding bits_at
+    bits_stays depth =
+        then_stays (nested_bits_at tag depth) (λ v. alone_in (f.reading (depth + 1)) v) (nested_bits_goes_on tag depth) (nested_bits_stays tag depth) (alone_kept (depth + 1))
+
     pub bits_readable : Readable (bits_form tag f)
     bits_readable = record {
       one_value = λ s x _ p. record { tag = tag; contents = 0 ∷ p.contents; value = p.value };
@@ -119,6 +150,8 @@ module _ {X : Type 0} (f : Form X) (law : Readable f) where
       again = bits_again;
       shorter = bits_shorter;
       first = λ s x _ p. BeginsBy-value (λ b. eqb b tag.0) tag (0 ∷ p.contents) s (eqb_same tag.0) p.value;
+      cut = bits_cut;
+      stays = bits_stays;
     }
 
 module _ {X : Type 0} (f : Form X) (law : Writable f) (tag : Tag) (one_byte : tag.0 % 32 ≢ 31) where

@@ -1,14 +1,16 @@
 -- The laws of one value under another tag.
-use Rattle.std.proofs.Common.{◌≡◌, ◌≢◌, ℕ, ◌%◌, ◌^◌, ◌<◌, eqb, List, [], ◌∷◌, ◌++◌, length, drop, Ok, refl, sym, ap, subst, ◌∙◌, arith, inl, inr}
+use Rattle.std.proofs.Common.{◌≡◌, ◌≢◌, ℕ, ◌%◌, ◌^◌, ◌<◌, eqb, List, [], ◌∷◌, ◌++◌, length, drop, Ok, Err, refl, sym, ap, subst, ◌∙◌, arith, inl, inr}
 use Rattle.std.proofs.lemmas.Bool.{eqb-true}
 use Rattle.std.proofs.lemmas.List.{append-nil, length-drop}
 use Rattle.picky_asn1_tag.specs.declared.tag.Tag.{Tag}
+use Rattle.picky_der.specs.declared.fault.DerError.TheVariants.{Truncated}
 use Rattle.picky_der.specs.Length.{TailIsBytes, length_of, value_of}
 use Rattle.picky_der.specs.Reading.{◌>>=◌, value_at, raw_at}
 use Rattle.picky_der.specs.Form.{Form, Readable, Writable, Appends, Tagged, IsValue, IsOneValue, BeginsBy, Takes, GivesOrTooDeep}
 use Rattle.picky_der.specs.laws.Steps.{ok_is, bind_ok, pair_fst, pair_snd}
 use Rattle.picky_der.specs.laws.Lengths.{IsBytes-front}
 use Rattle.picky_der.specs.laws.Headers.{IsValue-same, IsValue-again, value_takes, value_shorter, raw_again, eqb_same}
+use Rattle.picky_der.specs.laws.Prefixes.{Stays, kept_fault, then_stays, value_goes_on, value_stays, value_cut}
 use Rattle.picky_der.specs.laws.Whole.{again_alone}
 use Rattle.picky_asn1_wrapper.specs.Implicit.{implicit_at, SpellsImplicit, implicit_form}
 
@@ -92,6 +94,18 @@ module _ {X : Type 0} (f : Form X) (law : Readable f) (outer inner : Tag) (one_b
           let spellings : p.spelling ≡ q.spelling = u.2 ∙ ap (value_of inner.0) k.1 ∙ sym w.2 in
           (k.0, (law.prefix_free x y p.spelling q.spelling [] [] g h p.spelled q.spelled (ap (λ (r : List ℕ). r ++ []) spellings)).1)
 
+      implicit_cut : (depth : ℕ) (front back : List ℕ) (x : X) → f.in_form x → SpellsImplicit outer f.Spells (front ++ back) x → back ≢ [] → implicit_at outer inner f.reading depth front ≡ Err Truncated
+      unfolding implicit_at
+      implicit_cut depth front back x formed p some =
+          let r = retagged (front ++ back) x formed p in
+          rw (value_cut outer r.0 front back r.1 some) refl
+
+      implicit_stays : (depth : ℕ) → Stays (implicit_at outer inner f.reading depth)
+      unfolding implicit_at
+      implicit_stays depth =
+          then_stays (value_at outer) (λ v. f.reading depth (value_of inner.0 v.0) >>= λ x. Ok (x.0, v.1)) (value_goes_on outer) (value_stays outer)
+          (λ c rest other e h. kept_fault (f.reading depth (value_of inner.0 c)) (λ x. x.0) rest other e h)
+
       pub implicit_readable : Readable (implicit_form outer inner f)
       implicit_readable = record {
         one_value = λ s x g p. let r = retagged s x g p in record { tag = outer; contents = r.0; value = r.1 };
@@ -100,6 +114,8 @@ module _ {X : Type 0} (f : Form X) (law : Readable f) (outer inner : Tag) (one_b
         again = implicit_again;
         shorter = implicit_shorter;
         first = λ s x _ p. rw p.bytes_are (eqb_same outer.0);
+        cut = implicit_cut;
+        stays = implicit_stays;
       }
 
 pub implicit_writable : {X : Type 0} (f : Form X) (law : Writable f) (outer inner : Tag) → outer.0 % 32 ≢ 31 → Writable (implicit_form outer inner f)

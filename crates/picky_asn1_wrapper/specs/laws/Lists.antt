@@ -1,14 +1,16 @@
 -- The laws of SEQUENCE OF and SET OF.
-use Rattle.std.proofs.Common.{◌≡◌, ◌≢◌, ℕ, zero, suc, ◌+◌, ◌%◌, ◌^◌, ◌<◌, ◌≤◌, eqb, List, [], ◌∷◌, ◌++◌, length, Ok, refl, sym, ap, subst, ◌∙◌, arith, inl, inr}
+use Rattle.std.proofs.Common.{◌≡◌, ◌≢◌, ℕ, zero, suc, ◌+◌, ◌%◌, ◌^◌, ◌<◌, ◌≤◌, eqb, List, [], ◌∷◌, ◌++◌, length, Ok, Err, refl, sym, ap, subst, ◌∙◌, arith, inl, inr}
 use Rattle.std.specs.List.{flat_map}
 use Rattle.std.proofs.lemmas.List.{length-append, append_cancel_left}
 use Rattle.picky_asn1_tag.specs.declared.tag.Tag.{Tag}
+use Rattle.picky_der.specs.declared.fault.DerError.TheVariants.{Truncated}
 use Rattle.picky_der.specs.Length.{IsBytes, TailIsBytes, value_of}
 use Rattle.picky_der.specs.Reading.{◌>>=◌, nested_at}
-use Rattle.picky_der.specs.Form.{Form, Readable, Writable, Tagged, IsValue, BeginsBy, Takes, GivesOrTooDeep}
+use Rattle.picky_der.specs.Form.{Form, Readable, Writable, Tagged, IsValue, BeginsBy, Takes, GivesOrTooDeep, IsWrittenInForm}
 use Rattle.picky_der.specs.laws.Steps.{ok_is, bind_ok, pair_snd}
 use Rattle.picky_der.specs.laws.Lengths.{IsBytes-after, TailIsBytes-of}
 use Rattle.picky_der.specs.laws.Headers.{IsValue-same, IsValue-of, length-value_of, IsBytes-contents, BeginsBy-value, nested_again, nested_takes, nested_shorter, eqb_same}
+use Rattle.picky_der.specs.laws.Prefixes.{Stays, kept_fault, then_stays, nested_goes_on, nested_stays, nested_cut}
 use Rattle.picky_asn1_wrapper.specs.Lists.{SpellsAll, AllFormed, SomeRefused, items_at, list_at, SpellsList, list_form}
 
 some_byte : (test : ℕ → _) (s : List ℕ) → BeginsBy test s → 0 < length s
@@ -92,6 +94,16 @@ module _ {X : Type 0} (f : Form X) (law : Readable f) where
         let k = IsValue-same tag p.contents q.contents s t a b p.value q.value e in
         (k.0, items_same xs ys p.contents q.contents k.1 h g p.items q.items)
 
+    list_cut : (depth : ℕ) (front back : List ℕ) (xs : List X) → AllFormed f.in_form xs → SpellsList tag f.Spells (front ++ back) xs → back ≢ [] → list_at tag f.reading depth front ≡ Err Truncated
+    unfolding list_at
+    list_cut depth front back xs formed p some = rw (nested_cut tag depth p.contents front back p.value some) refl
+
+    list_stays : (depth : ℕ) → Stays (list_at tag f.reading depth)
+    unfolding list_at
+    list_stays depth =
+        then_stays (nested_at tag depth) (λ v. items_at (f.reading (depth + 1)) (length v.0) v.0 >>= λ xs. Ok (xs, v.1)) (nested_goes_on tag depth) (nested_stays tag depth)
+        (λ c rest other e h. kept_fault (items_at (f.reading (depth + 1)) (length c) c) (λ xs. xs) rest other e h)
+
     pub list_readable : Readable (list_form tag f)
     list_readable = record {
       one_value = λ s xs _ p. record { tag = tag; contents = p.contents; value = p.value };
@@ -100,6 +112,8 @@ module _ {X : Type 0} (f : Form X) (law : Readable f) where
       again = list_again;
       shorter = list_shorter;
       first = λ s xs _ p. BeginsBy-value (λ b. eqb b tag.0) tag p.contents s (eqb_same tag.0) p.value;
+      cut = list_cut;
+      stays = list_stays;
     }
 
 module _ {X : Type 0} (f : Form X) (law : Writable f) where
@@ -148,3 +162,12 @@ list_tagged f tag = record {
   first = λ s xs _ p. BeginsBy-value (λ b. eqb b tag.0) tag p.contents s (eqb_same tag.0) p.value;
   no_other = λ b. refl;
 }
+
+-- lists of values that are written in form are
+module _ {X : Type 0} (f : Form X) (formed : IsWrittenInForm f) where
+  items_formed : (s : List ℕ) (xs : List X) → SpellsAll f.Encodes s xs → AllFormed f.in_form xs
+  items_formed s [] p = tt
+  items_formed s (x ∷ xs) p = (formed p.0 x p.3, items_formed p.1 xs p.4)
+
+  pub list_formed : (tag : Tag) → IsWrittenInForm (list_form tag f)
+  list_formed tag s xs p = items_formed p.contents xs p.items

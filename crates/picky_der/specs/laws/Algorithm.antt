@@ -1,10 +1,11 @@
 -- The laws of an AlgorithmIdentifier.
-use Rattle.std.proofs.Common.{◌≡◌, ℕ, ◌+◌, ◌^◌, ◌<◌, eqb, Option, Some, None, List, [], ◌∷◌, ◌++◌, length, Ok, refl, sym, ap, subst, ◌∙◌, arith, inl, inr}
+use Rattle.std.proofs.Common.{◌≡◌, ◌≢◌, ℕ, ◌+◌, ◌^◌, ◌<◌, eqb, Option, Some, None, List, [], ◌∷◌, ◌++◌, length, Ok, Err, refl, sym, ap, subst, ◌∙◌, arith, inl, inr}
 use Rattle.std.specs.Prelude.{IfSome}
 use Rattle.std.proofs.lemmas.List.{append-nil, append_cancel_left, length-append}
 use Rattle.picky_asn1_oid.specs.Arcs.{contents_of}
 use Rattle.picky_asn1_tag.specs.declared.tag.Tag.{Tag}
 use Rattle.picky_der.specs.declared.algorithm.AlgorithmIdentifier.{AlgorithmIdentifier}
+use Rattle.picky_der.specs.declared.fault.DerError.TheVariants.{Truncated}
 use Rattle.picky_der.specs.Length.{IsBytes, TailIsBytes, value_of}
 use Rattle.picky_der.specs.Reading.{◌>>=◌, nested_at, raw_at, end_at}
 use Rattle.picky_der.specs.Form.{Readable, Writable, IsValue, IsOneValue, Takes, GivesOrTooDeep}
@@ -14,6 +15,7 @@ use Rattle.picky_der.specs.Algorithm.{IsAlgorithm, parameters_bytes, SpellsAlgor
 use Rattle.picky_der.specs.laws.Steps.{ok_is, bind_ok, pair_snd}
 use Rattle.picky_der.specs.laws.Lengths.{IsBytes-after, TailIsBytes-of}
 use Rattle.picky_der.specs.laws.Headers.{IsValue-same, IsValue-of, length-value_of, IsBytes-contents, BeginsBy-value, nested_again, nested_takes, nested_shorter, raw_again, raw_takes, end_takes, end_again, eqb_same}
+use Rattle.picky_der.specs.laws.Prefixes.{Stays, kept_fault, then_stays, nested_goes_on, nested_stays, nested_cut}
 use Rattle.picky_der.specs.laws.Identifier.{identifier_readable, identifier_writable}
 
 abbrev made : List ℕ → Option (List ℕ) → AlgorithmIdentifier
@@ -129,6 +131,16 @@ contents_same i j a b g h p q e =
     let parameters = parameters_same a.parameters b.parameters g.parameters h.parameters later in
     ap (λ (oid : List ℕ). made oid a.parameters) k.1 ∙ ap (λ (r : Option (List ℕ)). made b.oid r) parameters
 
+algorithm_cut : (depth : ℕ) (front back : List ℕ) (a : AlgorithmIdentifier) → IsAlgorithm a → SpellsAlgorithm (front ++ back) a → back ≢ [] → algorithm_at depth front ≡ Err Truncated
+unfolding algorithm_at
+algorithm_cut depth front back a formed p some =
+    rw (nested_cut sequence depth (p.identifier ++ parameters_bytes a.parameters) front back p.value some) refl
+
+algorithm_stays : (depth : ℕ) → Stays (algorithm_at depth)
+unfolding algorithm_at
+algorithm_stays depth =
+    then_stays (nested_at sequence depth) (λ v. fields_at (depth + 1) v.0 >>= λ a. Ok (a, v.1)) (nested_goes_on sequence depth) (nested_stays sequence depth) (λ c rest other e h. kept_fault (fields_at (depth + 1) c) (λ a. a) rest other e h)
+
 pub algorithm_readable : Readable algorithm_form
 algorithm_readable = record {
   one_value = λ s a _ p. record { tag = sequence; contents = p.identifier ++ parameters_bytes a.parameters; value = p.value };
@@ -139,6 +151,8 @@ algorithm_readable = record {
   again = algorithm_again;
   shorter = algorithm_shorter;
   first = λ s a _ p. BeginsBy-value (λ b. eqb b 48) sequence (p.identifier ++ parameters_bytes a.parameters) s (eqb_same 48) p.value;
+  cut = algorithm_cut;
+  stays = algorithm_stays;
 }
 
 pub algorithm_writable : Writable algorithm_form

@@ -4,8 +4,9 @@ use Rattle.std.specs.Prelude.{◌||◌, slice_index}
 use Rattle.std.proofs.lemmas.Bool.{eq-eqb, ne_eqb, eqb-true, ltb-false, le-ltb}
 use Rattle.std.proofs.lemmas.List.{take_at, drop_at, take-append-drop, length-append, length-take, length-drop}
 use Rattle.picky_asn1_tag.specs.declared.tag.Tag.{Tag}
+use Rattle.picky_asn1_bits.specs.Integer.{unsigned_of}
 use Rattle.picky_der.specs.declared.fault.DerError.TheVariants.{Truncated, WrongTag, BadLength, BadValue, TooDeep}
-use Rattle.picky_der.specs.Length.{IsBytes, TailIsBytes, number_of, length_of, value_of}
+use Rattle.picky_der.specs.Length.{IsBytes, TailIsBytes, length_of, value_of}
 use Rattle.picky_der.specs.Reading.{◌>>=◌, length_at, long_at, contents_at, rest_at, after_tag, value_at, raw_at, deeper, nested_at, whole_bytes, nested_bits_at, end_at}
 use Rattle.picky_der.specs.Form.{IsValue, IsOneValue, BeginsBy, GivesOrTooDeep}
 use Rattle.picky_der.specs.laws.Steps.{chosen, ok_is, guard_ok, need_ok, bind_ok, pair_fst, pair_snd}
@@ -104,8 +105,8 @@ long_shorter k bytes n rest e =
     let ds = take k bytes in
     let a = guard_ok (ltb (length bytes) k) Truncated _ (n, rest) e in
     let b = guard_ok (eqb k 0 || ltb 8 k) BadLength _ (n, rest) a.1 in
-    let c = guard_ok (eqb (slice_index ds 0) 0 || ltb (number_of ds) 128) BadLength (Ok (number_of ds, drop k bytes)) (n, rest) b.1 in
-    let rest-is : drop k bytes ≡ rest = pair_snd _ _ (ok_is (number_of ds, drop k bytes) (n, rest) c.1) in
+    let c = guard_ok (eqb (slice_index ds 0) 0 || ltb (unsigned_of ds) 128) BadLength (Ok (unsigned_of ds, drop k bytes)) (n, rest) b.1 in
+    let rest-is : drop k bytes ≡ rest = pair_snd _ _ (ok_is (unsigned_of ds, drop k bytes) (n, rest) c.1) in
     omega (arith, length-drop k bytes, ap length rest-is)
 
 pub length_shorter : (bytes : List ℕ) (n : ℕ) (rest : List ℕ) → length_at bytes ≡ Ok (n, rest) → length rest ≤ length bytes

@@ -10,7 +10,7 @@ use Rattle.std.proofs.lemmas.List.Elements.{All-head, All-tail}
 use Rattle.std.proofs.lemmas.Slice.Eq.{bytes_eq-Decides}
 use Rattle.picky_asn1_oid.specs.Arcs.{FitsArc, IsArcs, continued, base128, subidentifiers, contents_of}
 use Rattle.picky_asn1_oid.specs.Fault.{IsContentsOf}
-use Rattle.picky_asn1_oid.proofs.Arcs.{arcs_from-subidentifiers, subidentifiers_fit}
+use Rattle.picky_asn1_oid.specs.laws.Arcs.{arcs_from-subidentifiers, subidentifiers_fit}
 use Rattle.picky_asn1_oid.specs.Numbers.{arcs_from}
 use Rattle.picky_der.specs.declared.fault.DerError.TheVariants.{BadValue}
 use Rattle.picky_der.specs.Form.{Readable, Writable, Tagged}

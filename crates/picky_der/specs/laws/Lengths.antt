@@ -1,13 +1,15 @@
 -- A length that is read is spelled so, and what is spelled so is read again.
-use Rattle.std.proofs.Common.{◌≡◌, ℕ, zero, suc, ◌+◌, ◌-◌, ◌^◌, ◌<◌, ◌≤◌, true, false, ltb, eqb, List, [], ◌∷◌, ◌++◌, length, take, drop, Ok, refl, sym, ap, ◌∙◌, arith, inl, inr}
+use Rattle.std.proofs.Common.{◌≡◌, ℕ, zero, suc, ◌+◌, ◌-◌, ◌*◌, ◌^◌, ◌<◌, ◌≤◌, true, false, ltb, eqb, List, [], ◌∷◌, ◌++◌, length, take, drop, Ok, refl, sym, ap, ◌∙◌, arith, inl, inr}
 use Rattle.std.specs.Prelude.{◌||◌, slice_index}
 use Rattle.std.proofs.Math.Dec.{eqb-suc-zero}
+use Rattle.std.proofs.Math.Nat.{pow-suc}
 use Rattle.std.specs.Int.{w64, from_be_bytes, to_be_bytes, bytes_high_first, byte_at}
 use Rattle.std.proofs.lemmas.Bool.{cases_lt, eq-eqb, ne_eqb, ltb-false, ltb-true, le-ltb, lt-ltb}
 use Rattle.std.proofs.lemmas.List.{take_at, drop_at, take-append-drop, length-append, length-take, get_or-drop, get_or-take, get_or_past}
 use Rattle.std.proofs.lemmas.Nat.{be_bytes_8, from_be_bytes-to_be_bytes_8}
+use Rattle.picky_asn1_bits.specs.Integer.{unsigned_of}
 use Rattle.picky_der.specs.declared.fault.DerError.TheVariants.{Truncated, BadLength}
-use Rattle.picky_der.specs.Length.{IsBytes, TailIsBytes, number_of, without_zeros, digits, length_of, SpellsLength}
+use Rattle.picky_der.specs.Length.{IsBytes, TailIsBytes, without_zeros, digits, length_of, SpellsLength}
 use Rattle.picky_der.specs.Reading.{length_at, long_at}
 use Rattle.picky_der.specs.laws.Steps.{chosen, or_false, ok_is, guard_ok, pair_fst, pair_snd}
 
@@ -47,12 +49,32 @@ pub IsBytes-both : (a b : List ℕ) → IsBytes a → IsBytes b → IsBytes (a +
 IsBytes-both [] b p q = q
 IsBytes-both (x ∷ a) b p q = IsBytes-cons x (a ++ b) (p zero) (IsBytes-both a b (IsBytes-rest x a p) q)
 
+-- ---- a number byte by byte
+
+-- the number of which these are the last bytes, where `high` stands for those in front
+abbrev pub number_after : ℕ → List ℕ → ℕ
+number_after high [] = high
+number_after high (b ∷ bs) = number_after (high * 256 + b) bs
+
+one_more : (high b p q u : ℕ) → q ≡ p * 256 → (high * 256 + b) * p + u ≡ high * q + (b * p + u)
+one_more high b p q u e = rw e (omega arith)
+
+number_after-sum : (high : ℕ) (bs : List ℕ) → number_after high bs ≡ high * 256 ^ length bs + unsigned_of bs
+number_after-sum high [] = omega arith
+number_after-sum high (b ∷ bs) = number_after-sum (high * 256 + b) bs ∙ one_more high b (256 ^ length bs) (256 ^ length (b ∷ bs)) (unsigned_of bs) (pow-suc 256 (length bs))
+
+pub unsigned_of-after : (bs : List ℕ) → number_after 0 bs ≡ unsigned_of bs
+unsigned_of-after bs = omega (arith, number_after-sum 0 bs)
+
+unsigned_of-zero : (bs : List ℕ) → unsigned_of (0 ∷ bs) ≡ unsigned_of bs
+unsigned_of-zero bs = omega arith
+
 -- ---- the fewest bytes of a number
 
-number_of-without_zeros : (ds : List ℕ) → number_of (without_zeros ds) ≡ number_of ds
-number_of-without_zeros [] = refl
-number_of-without_zeros (zero ∷ ds) = number_of-without_zeros ds
-number_of-without_zeros (suc d ∷ ds) = refl
+unsigned_of-without_zeros : (ds : List ℕ) → unsigned_of (without_zeros ds) ≡ unsigned_of ds
+unsigned_of-without_zeros [] = refl
+unsigned_of-without_zeros (zero ∷ ds) = unsigned_of-without_zeros ds ∙ sym (unsigned_of-zero ds)
+unsigned_of-without_zeros (suc d ∷ ds) = refl
 
 length-without_zeros : (ds : List ℕ) → length (without_zeros ds) ≤ length ds
 length-without_zeros [] = omega arith
@@ -64,15 +86,15 @@ IsBytes-without_zeros [] h = h
 IsBytes-without_zeros (zero ∷ ds) h = IsBytes-without_zeros ds (IsBytes-rest 0 ds h)
 IsBytes-without_zeros (suc d ∷ ds) h = h
 
-number_of_word : (a b c d e f g h : ℕ) → number_of (a ∷ b ∷ c ∷ d ∷ e ∷ f ∷ g ∷ h ∷ []) ≡ from_be_bytes w64 (a ∷ b ∷ c ∷ d ∷ e ∷ f ∷ g ∷ h ∷ [])
-number_of_word a b c d e f g h = omega arith
+unsigned_of_word : (a b c d e f g h : ℕ) → unsigned_of (a ∷ b ∷ c ∷ d ∷ e ∷ f ∷ g ∷ h ∷ []) ≡ from_be_bytes w64 (a ∷ b ∷ c ∷ d ∷ e ∷ f ∷ g ∷ h ∷ [])
+unsigned_of_word a b c d e f g h = omega arith
 
-number_of-to_be_bytes : (n : ℕ) → n < 2 ^ 64 → number_of (to_be_bytes w64 n) ≡ n
-number_of-to_be_bytes n lt = number_of_word _ _ _ _ _ _ _ _ ∙ from_be_bytes-to_be_bytes_8 n lt
+unsigned_of-to_be_bytes : (n : ℕ) → n < 2 ^ 64 → unsigned_of (to_be_bytes w64 n) ≡ n
+unsigned_of-to_be_bytes n lt = unsigned_of_word _ _ _ _ _ _ _ _ ∙ from_be_bytes-to_be_bytes_8 n lt
 
-pub number_of-digits : (n : ℕ) → n < 2 ^ 64 → number_of (digits n) ≡ n
+pub unsigned_of-digits : (n : ℕ) → n < 2 ^ 64 → unsigned_of (digits n) ≡ n
 unfolding digits
-number_of-digits n lt = number_of-without_zeros (to_be_bytes w64 n) ∙ number_of-to_be_bytes n lt
+unsigned_of-digits n lt = unsigned_of-without_zeros (to_be_bytes w64 n) ∙ unsigned_of-to_be_bytes n lt
 
 zeros : ℕ → List ℕ → List ℕ
 zeros zero ds = ds
@@ -83,10 +105,10 @@ unfolding zeros
 length-zeros zero ds = omega arith
 length-zeros (suc k) ds = omega (arith, length-zeros k ds)
 
-number_of-zeros : (k : ℕ) (ds : List ℕ) → number_of (zeros k ds) ≡ number_of ds
+unsigned_of-zeros : (k : ℕ) (ds : List ℕ) → unsigned_of (zeros k ds) ≡ unsigned_of ds
 unfolding zeros
-number_of-zeros zero ds = refl
-number_of-zeros (suc k) ds = number_of-zeros k ds
+unsigned_of-zeros zero ds = refl
+unsigned_of-zeros (suc k) ds = unsigned_of-zero (zeros k ds) ∙ unsigned_of-zeros k ds
 
 without_zeros-zeros : (k : ℕ) (ds : List ℕ) → without_zeros (zeros k ds) ≡ without_zeros ds
 unfolding zeros
@@ -98,8 +120,8 @@ unfolding zeros
 IsBytes-zeros zero ds h = h
 IsBytes-zeros (suc k) ds h = IsBytes-cons 0 (zeros k ds) (omega arith) (IsBytes-zeros k ds h)
 
-from_be_bytes-word : (z : List ℕ) → length z ≡ 8 → from_be_bytes w64 z ≡ number_of z
-from_be_bytes-word (a ∷ b ∷ c ∷ d ∷ e ∷ f ∷ g ∷ h ∷ []) len = sym (number_of_word a b c d e f g h)
+from_be_bytes-word : (z : List ℕ) → length z ≡ 8 → from_be_bytes w64 z ≡ unsigned_of z
+from_be_bytes-word (a ∷ b ∷ c ∷ d ∷ e ∷ f ∷ g ∷ h ∷ []) len = sym (unsigned_of_word a b c d e f g h)
 from_be_bytes-word _ len = absurd (omega arith)
 
 without_zeros-nonzero : (ds : List ℕ) → eqb (slice_index ds 0) 0 ≡ false → without_zeros ds ≡ ds
@@ -108,31 +130,31 @@ without_zeros-nonzero (zero ∷ ds) h = absurd cc
 without_zeros-nonzero (suc d ∷ ds) h = refl
 
 -- bytes without a zero in front are the digits of their number
-pub digits-number_of : (ds : List ℕ) → IsBytes ds → length ds ≤ 8 → eqb (slice_index ds 0) 0 ≡ false → digits (number_of ds) ≡ ds
+pub digits-unsigned_of : (ds : List ℕ) → IsBytes ds → length ds ≤ 8 → eqb (slice_index ds 0) 0 ≡ false → digits (unsigned_of ds) ≡ ds
 unfolding digits
-digits-number_of ds fits short first =
+digits-unsigned_of ds fits short first =
     let k = 8 - length ds in
     let z = zeros k ds in
     let len : length z ≡ 8 = omega (arith, length-zeros k ds) in
-    let same : from_be_bytes w64 z ≡ number_of ds = from_be_bytes-word z len ∙ number_of-zeros k ds in
-    let back : to_be_bytes w64 (number_of ds) ≡ z = be_bytes_8 z (number_of ds) len (IsBytes-zeros k ds fits) (sym same) in
+    let same : from_be_bytes w64 z ≡ unsigned_of ds = from_be_bytes-word z len ∙ unsigned_of-zeros k ds in
+    let back : to_be_bytes w64 (unsigned_of ds) ≡ z = be_bytes_8 z (unsigned_of ds) len (IsBytes-zeros k ds fits) (sym same) in
     ap without_zeros back ∙ without_zeros-zeros k ds ∙ without_zeros-nonzero ds first
 
-below_word : (ds : List ℕ) → IsBytes ds → length ds ≤ 8 → number_of ds < 2 ^ 64
+below_word : (ds : List ℕ) → IsBytes ds → length ds ≤ 8 → unsigned_of ds < 2 ^ 64
 below_word ds fits short =
     let k = 8 - length ds in
     let z = zeros k ds in
     let len : length z ≡ 8 = omega (arith, length-zeros k ds) in
-    let same : from_be_bytes w64 z ≡ number_of ds = from_be_bytes-word z len ∙ number_of-zeros k ds in
+    let same : from_be_bytes w64 z ≡ unsigned_of ds = from_be_bytes-word z len ∙ unsigned_of-zeros k ds in
     let h = IsBytes-zeros k ds fits in
     omega (arith, same, h 0, h 1, h 2, h 3, h 4, h 5, h 6, h 7)
 
-first-without_zeros : (ds : List ℕ) → 0 < number_of ds → eqb (slice_index (without_zeros ds) 0) 0 ≡ false
+first-without_zeros : (ds : List ℕ) → 0 < unsigned_of ds → eqb (slice_index (without_zeros ds) 0) 0 ≡ false
 first-without_zeros [] h = absurd (omega arith)
-first-without_zeros (zero ∷ ds) h = first-without_zeros ds h
+first-without_zeros (zero ∷ ds) h = first-without_zeros ds (omega (arith, unsigned_of-zero ds))
 first-without_zeros (suc d ∷ ds) h = eqb-suc-zero d
 
-positive : (ds : List ℕ) → 0 < number_of ds → 0 < length ds
+positive : (ds : List ℕ) → 0 < unsigned_of ds → 0 < length ds
 positive [] h = absurd (omega arith)
 positive (d ∷ ds) h = omega arith
 
@@ -154,7 +176,7 @@ length-digits n = length-without_zeros (to_be_bytes w64 n)
 
 first-digits : (n : ℕ) → n < 2 ^ 64 → 0 < n → eqb (slice_index (digits n) 0) 0 ≡ false
 unfolding digits
-first-digits n lt some = first-without_zeros (to_be_bytes w64 n) (rw (number_of-to_be_bytes n lt) some)
+first-digits n lt some = first-without_zeros (to_be_bytes w64 n) (rw (unsigned_of-to_be_bytes n lt) some)
 
 -- ---- a length is read both ways
 
@@ -165,7 +187,7 @@ length_again n rest lt =
       | inl small ↦ rw (lt-ltb n 128 small, lt-ltb n 128 small) refl
       | inr big ↦
           let ds = digits n in
-          let value : number_of ds ≡ n = number_of-digits n lt in
+          let value : unsigned_of ds ≡ n = unsigned_of-digits n lt in
           let long : length ds ≤ 8 = length-digits n in
           let some : 0 < length ds = positive ds (omega arith) in
           let first : eqb (slice_index ds 0) 0 ≡ false = first-digits n lt (omega arith) in
@@ -184,19 +206,19 @@ long_takes k bytes n rest fits e =
     let ds = take k bytes in
     let a = guard_ok (ltb (length bytes) k) Truncated _ (n, rest) e in
     let b = guard_ok (eqb k 0 || ltb 8 k) BadLength _ (n, rest) a.1 in
-    let c = guard_ok (eqb (slice_index ds 0) 0 || ltb (number_of ds) 128) BadLength (Ok (number_of ds, drop k bytes)) (n, rest) b.1 in
-    let pair = ok_is (number_of ds, drop k bytes) (n, rest) c.1 in
-    let n-is : number_of ds ≡ n = pair_fst _ _ pair in
+    let c = guard_ok (eqb (slice_index ds 0) 0 || ltb (unsigned_of ds) 128) BadLength (Ok (unsigned_of ds, drop k bytes)) (n, rest) b.1 in
+    let pair = ok_is (unsigned_of ds, drop k bytes) (n, rest) c.1 in
+    let n-is : unsigned_of ds ≡ n = pair_fst _ _ pair in
     let rest-is : drop k bytes ≡ rest = pair_snd _ _ pair in
     let enough : k ≤ length bytes = ltb-false (length bytes) k a.0 in
     let few : k ≤ 8 = ltb-false 8 k (or_false (eqb k 0) (ltb 8 k) b.0).1 in
-    let tests = or_false (eqb (slice_index ds 0) 0) (ltb (number_of ds) 128) c.0 in
+    let tests = or_false (eqb (slice_index ds 0) 0) (ltb (unsigned_of ds) 128) c.0 in
     let first : eqb (slice_index ds 0) 0 ≡ false = tests.0 in
-    let big : 128 ≤ number_of ds = ltb-false (number_of ds) 128 tests.1 in
+    let big : 128 ≤ unsigned_of ds = ltb-false (unsigned_of ds) 128 tests.1 in
     let len : length ds ≡ k = omega (arith, length-take k bytes) in
     let bytes-ds = IsBytes-take k bytes fits in
-    let same : digits n ≡ ds = rw (← n-is) (digits-number_of ds bytes-ds (omega arith) first) in
-    let below : number_of ds < 2 ^ 64 = below_word ds bytes-ds (omega arith) in
+    let same : digits n ≡ ds = rw (← n-is) (digits-unsigned_of ds bytes-ds (omega arith) first) in
+    let below : unsigned_of ds < 2 ^ 64 = below_word ds bytes-ds (omega arith) in
     (rw (same, ← rest-is) (sym (take-append-drop k bytes)), rw same len, omega arith, omega arith)
 
 pub length_takes : (bytes : List ℕ) (n : ℕ) (rest : List ℕ) → IsBytes bytes → length_at bytes ≡ Ok (n, rest) → (bytes ≡ length_of n ++ rest) × (n < 2 ^ 64)
@@ -227,7 +249,7 @@ length_of-spells n lt =
     elim (cases_lt n 128) [
       | inl small ↦ rw (lt-ltb n 128 small) (inl (record { bytes_are = refl; below = small }))
       | inr big ↦
-          let value : number_of (digits n) ≡ n = number_of-digits n lt in
+          let value : unsigned_of (digits n) ≡ n = unsigned_of-digits n lt in
           rw (le-ltb n 128 big) (inr (record {
             length_bytes = digits n;
             bytes_are = refl;
@@ -249,7 +271,7 @@ spells-length_of s n (inl p) =
 spells-length_of s n (inr p) =
     let ds = p.length_bytes in
     let first : eqb (slice_index ds 0) 0 ≡ false = ne_eqb (slice_index ds 0) 0 p.first in
-    let same : digits n ≡ ds = rw (← p.number) (digits-number_of ds p.are_bytes p.few first) in
-    let below : number_of ds < 2 ^ 64 = below_word ds p.are_bytes p.few in
+    let same : digits n ≡ ds = rw (← p.number) (digits-unsigned_of ds p.are_bytes p.few first) in
+    let below : unsigned_of ds < 2 ^ 64 = below_word ds p.are_bytes p.few in
     let big = p.not_short in
     (rw (le-ltb n 128 big, same) p.bytes_are, omega (arith, p.number))

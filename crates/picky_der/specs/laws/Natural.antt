@@ -4,13 +4,14 @@ use Rattle.std.specs.Prelude.{◌||◌, slice_index}
 use Rattle.std.proofs.Math.Nat.{pow-suc}
 use Rattle.std.proofs.lemmas.Bool.{cases_lt, ne_eqb, ltb-false, ltb-true, le-ltb, lt-ltb, leb-false, lt-leb}
 use Rattle.std.proofs.lemmas.List.{length-append}
+use Rattle.picky_asn1_bits.specs.Integer.{unsigned_of}
 use Rattle.picky_der.specs.declared.fault.DerError.TheVariants.{BadValue}
 use Rattle.picky_der.specs.Form.{Readable, Writable, Tagged}
 use Rattle.picky_der.specs.Primitive.{Decodes, primitive_form}
-use Rattle.picky_der.specs.Length.{IsBytes, number_of, number_after}
+use Rattle.picky_der.specs.Length.{IsBytes}
 use Rattle.picky_der.specs.Natural.{IsNatural, redundant, octets_within, natural_octets, natural_of, natural_contents}
 use Rattle.picky_der.specs.laws.Steps.{guard_ok, need_ok, or_false, ok_is}
-use Rattle.picky_der.specs.laws.Lengths.{IsBytes-rest, IsBytes-cons, IsBytes-front, IsBytes-both}
+use Rattle.picky_der.specs.laws.Lengths.{number_after, unsigned_of-after, IsBytes-rest, IsBytes-cons, IsBytes-front, IsBytes-both}
 use Rattle.picky_der.specs.laws.Primitives.{primitive_readable, primitive_writable, primitive_tagged}
 
 -- ---- a number grows with its octets
@@ -23,8 +24,9 @@ pub number_after-append : (high : ℕ) (bs cs : List ℕ) → number_after high 
 number_after-append high [] cs = refl
 number_after-append high (b ∷ bs) cs = number_after-append (high * 256 + b) bs cs
 
-pub number_of-push : (bs : List ℕ) (b : ℕ) → number_of (bs ++ b ∷ []) ≡ number_of bs * 256 + b
-number_of-push bs b = number_after-append 0 bs (b ∷ [])
+pub unsigned_of-push : (bs : List ℕ) (b : ℕ) → unsigned_of (bs ++ b ∷ []) ≡ unsigned_of bs * 256 + b
+unsigned_of-push bs b =
+    sym (unsigned_of-after (bs ++ b ∷ [])) ∙ number_after-append 0 bs (b ∷ []) ∙ ap (λ (n : ℕ). n * 256 + b) (unsigned_of-after bs)
 
 -- ---- one octet more
 
@@ -53,7 +55,7 @@ IsNatural-push c b n p lt big = record {
   some = omega (arith, length-append c (b ∷ []));
   sign = rw (first-push c b p.some) p.sign;
   fewest = λ _ z. fewest-push c b n p big z;
-  number = number_of-push c b ∙ ap (λ (m : ℕ). m * 256 + b) p.number;
+  number = unsigned_of-push c b ∙ ap (λ (m : ℕ). m * 256 + b) p.number;
 }
 
 -- the octets of a number stand for it
@@ -100,7 +102,7 @@ last-byte x (y ∷ ys) h = last-byte y ys (IsBytes-rest x (y ∷ ys) h)
 -- two octets or more stand for 128 or more
 two-octets : (x y : ℕ) (ys : List ℕ) (n : ℕ) → IsNatural (x ∷ y ∷ ys) n → 128 ≤ n
 two-octets x y ys n p =
-    let e : number_after ((0 * 256 + x) * 256 + y) ys ≡ n = p.number in
+    let e : number_after ((0 * 256 + x) * 256 + y) ys ≡ n = unsigned_of-after (x ∷ y ∷ ys) ∙ p.number in
     let least : (0 * 256 + x) * 256 + y ≤ number_after ((0 * 256 + x) * 256 + y) ys = number_after-at_least ((0 * 256 + x) * 256 + y) ys in
     elim (cases_lt 0 x) [
       | inl some ↦ omega arith
@@ -116,7 +118,7 @@ sign-front : (x y : ℕ) (ys : List ℕ) (n : ℕ) → IsNatural (x ∷ y ∷ ys
 unfolding front
 sign-front x y ys n p = p.sign
 
-front-natural : (x y : ℕ) (ys : List ℕ) (n : ℕ) → IsNatural (x ∷ y ∷ ys) n → IsNatural (front x (y ∷ ys)) (number_of (front x (y ∷ ys)))
+front-natural : (x y : ℕ) (ys : List ℕ) (n : ℕ) → IsNatural (x ∷ y ∷ ys) n → IsNatural (front x (y ∷ ys)) (unsigned_of (front x (y ∷ ys)))
 front-natural x y ys n p =
     let parts = front-last x (y ∷ ys) in
     record {
@@ -127,8 +129,8 @@ front-natural x y ys n p =
       number = refl;
     }
 
-split-number : (x y : ℕ) (ys : List ℕ) (n : ℕ) → IsNatural (x ∷ y ∷ ys) n → number_of (front x (y ∷ ys)) * 256 + last x (y ∷ ys) ≡ n
-split-number x y ys n p = sym (number_of-push (front x (y ∷ ys)) (last x (y ∷ ys))) ∙ ap number_of (sym (front-last x (y ∷ ys))) ∙ p.number
+split-number : (x y : ℕ) (ys : List ℕ) (n : ℕ) → IsNatural (x ∷ y ∷ ys) n → unsigned_of (front x (y ∷ ys)) * 256 + last x (y ∷ ys) ≡ n
+split-number x y ys n p = sym (unsigned_of-push (front x (y ∷ ys)) (last x (y ∷ ys))) ∙ ap unsigned_of (sym (front-last x (y ∷ ys))) ∙ p.number
 
 one-octet : (x : ℕ) (n : ℕ) → IsNatural (x ∷ []) n → x ≡ n
 one-octet x n p = let e = p.number in omega arith
@@ -145,10 +147,10 @@ one-within (suc k) (x ∷ y ∷ ys) (u ∷ v ∷ vs) n le p q =
     let b = split-number u v vs n q in
     let la = last-byte x (y ∷ ys) p.are_bytes in
     let lb = last-byte u (v ∷ vs) q.are_bytes in
-    let same : number_of (front u (v ∷ vs)) ≡ number_of (front x (y ∷ ys)) = omega arith in
+    let same : unsigned_of (front u (v ∷ vs)) ≡ unsigned_of (front x (y ∷ ys)) = omega arith in
     let lasts : last x (y ∷ ys) ≡ last u (v ∷ vs) = omega arith in
     let shorter : length (front x (y ∷ ys)) ≤ k = omega (arith, length-front x (y ∷ ys)) in
-    let fronts = one-within k (front x (y ∷ ys)) (front u (v ∷ vs)) (number_of (front x (y ∷ ys))) shorter (front-natural x y ys n p) (subst (IsNatural (front u (v ∷ vs))) same (front-natural u v vs n q)) in
+    let fronts = one-within k (front x (y ∷ ys)) (front u (v ∷ vs)) (unsigned_of (front x (y ∷ ys))) shorter (front-natural x y ys n p) (subst (IsNatural (front u (v ∷ vs))) same (front-natural u v vs n q)) in
     front-last x (y ∷ ys) ∙ ap (λ (t : List ℕ). t ++ last x (y ∷ ys) ∷ []) fronts ∙ ap (λ (t : ℕ). front u (v ∷ vs) ++ t ∷ []) lasts ∙ sym (front-last u (v ∷ vs))
 
 natural-one : (c d : List ℕ) (n : ℕ) → IsNatural c n → IsNatural d n → c ≡ d
@@ -163,7 +165,7 @@ not-redundant b (c ∷ cs) e h z = ltb-false c 128 (rw z at e)
 natural_done : (limit : ℕ) (octets : List ℕ) (n : ℕ) → IsBytes octets → natural_of limit octets ≡ Ok n → (n < limit) × IsNatural octets n
 natural_done limit [] n fits e = absurd cc
 natural_done limit (b ∷ bs) n fits e =
-    let m = number_of (b ∷ bs) in
+    let m = unsigned_of (b ∷ bs) in
     let a = guard_ok (leb 128 b || redundant b bs) BadValue (cond (ltb m limit) (Ok m) (Err BadValue)) n e in
     let k = need_ok (ltb m limit) BadValue (Ok m) n a.1 in
     let tests = or_false (leb 128 b) (redundant b bs) a.0 in
@@ -185,7 +187,7 @@ natural_back limit [] n lt p = absurd (let s = p.some in omega arith)
 natural_back limit (b ∷ bs) n lt p =
     let sign : leb 128 b ≡ false = lt-leb 128 b p.sign in
     let few : redundant b bs ≡ false = is-fewest b bs p.fewest in
-    let test : ltb (number_of (b ∷ bs)) limit ≡ true = rw p.number (lt-ltb n limit lt) in
+    let test : ltb (unsigned_of (b ∷ bs)) limit ≡ true = rw p.number (lt-ltb n limit lt) in
     rw (sign, few, test) (ap (λ (t : ℕ). Ok t) p.number)
 
 natural_decodes : (limit : ℕ) → limit ≤ 2 ^ 128 → Decodes (natural_contents limit)

@@ -1,12 +1,14 @@
 -- The laws of a type whose contents octets are decoded.
-use Rattle.std.proofs.Common.{◌≡◌, ◌≢◌, ℕ, ◌%◌, ◌<◌, eqb, List, ◌++◌, length, Ok, refl, sym, ap, subst, ◌∙◌, arith, inl}
+use Rattle.std.proofs.Common.{◌≡◌, ◌≢◌, ℕ, ◌%◌, ◌<◌, eqb, List, [], ◌++◌, length, Ok, Err, refl, sym, ap, subst, ◌∙◌, arith, inl}
 use Rattle.picky_asn1_tag.specs.declared.tag.Tag.{Tag}
+use Rattle.picky_der.specs.declared.fault.DerError.TheVariants.{Truncated}
 use Rattle.picky_der.specs.Length.{TailIsBytes, value_of}
 use Rattle.picky_der.specs.Reading.{◌>>=◌, value_at}
 use Rattle.picky_der.specs.Form.{Readable, Writable, Tagged, IsValue, Takes, GivesOrTooDeep}
 use Rattle.picky_der.specs.Primitive.{Contents, Decodes, SpellsPrimitive, primitive_at, primitive_form}
 use Rattle.picky_der.specs.laws.Steps.{ok_is, bind_ok, pair_snd}
 use Rattle.picky_der.specs.laws.Headers.{IsValue-same, IsValue-again, IsValue-of, IsBytes-contents, BeginsBy-value, value_takes, value_shorter, eqb_same}
+use Rattle.picky_der.specs.laws.Prefixes.{Stays, kept_fault, value_goes_on, value_stays, value_cut, then_stays}
 
 module _ {X : Type 0} (tag : Tag) (k : Contents X) (law : Decodes k) where
   same_octets : (c d : List ℕ) (x y : X) → k.in_form x → k.in_form y → k.Octets c x → k.Octets d y → c ≡ d → x ≡ y
@@ -39,6 +41,14 @@ module _ {X : Type 0} (tag : Tag) (k : Contents X) (law : Decodes k) where
       let w = bind_ok (k.decode v.0.0) (λ x. Ok (x, v.0.1)) (x, rest) v.2 in
       omega (arith, value_shorter tag bytes v.0.0 v.0.1 v.1, ap length (pair_snd _ _ (ok_is (w.0, v.0.1) (x, rest) w.2)))
 
+  primitive_cut : (depth : ℕ) (front back : List ℕ) (x : X) → k.in_form x → SpellsPrimitive tag k.Octets (front ++ back) x → back ≢ [] → primitive_at tag k.decode depth front ≡ Err Truncated
+  unfolding primitive_at
+  primitive_cut depth front back x formed p some = rw (value_cut tag p.octets front back p.value some) refl
+
+  primitive_stays : (depth : ℕ) → Stays (primitive_at tag k.decode depth)
+  unfolding primitive_at
+  primitive_stays depth = then_stays (value_at tag) (λ v. k.decode v.0 >>= λ x. Ok (x, v.1)) (value_goes_on tag) (value_stays tag) (λ c rest other e h. kept_fault (k.decode c) (λ x. x) rest other e h)
+
   pub primitive_readable : Readable (primitive_form tag k)
   primitive_readable = record {
     one_value = λ s x _ p. record { tag = tag; contents = p.octets; value = p.value };
@@ -49,6 +59,8 @@ module _ {X : Type 0} (tag : Tag) (k : Contents X) (law : Decodes k) where
     again = primitive_again;
     shorter = primitive_shorter;
     first = λ s x _ p. BeginsBy-value (λ b. eqb b tag.0) tag p.octets s (eqb_same tag.0) p.value;
+    cut = primitive_cut;
+    stays = primitive_stays;
   }
 
   pub primitive_writable : tag.0 % 32 ≢ 31 → Writable (primitive_form tag k)

@@ -9,6 +9,7 @@ use Rattle.picky_der.specs.Form.{Readable, Writable, IsOneValue, BeginsBy, Takes
 use Rattle.picky_der.specs.Raw.{raw_form}
 use Rattle.picky_der.specs.laws.Steps.{ok_is, pair_fst}
 use Rattle.picky_der.specs.laws.Headers.{raw_again, raw_takes, raw_shorter, end_takes, BeginsBy-value}
+use Rattle.picky_der.specs.laws.Prefixes.{raw_stays, raw_cut}
 
 raw_prefix_free : (x y s t a b : List ℕ) → IsOneValue x → IsOneValue y → s ≡ x → t ≡ y → s ++ a ≡ t ++ b → (s ≡ t) × (x ≡ y)
 raw_prefix_free x y s t a b f g p q e =
@@ -35,6 +36,8 @@ raw_readable = record {
   again = λ _ s rest x f p. inl (rw p (raw_again x rest f));
   shorter = λ _ bytes x rest e. raw_shorter bytes x rest e;
   first = raw_first;
+  cut = λ _ front back x f p some. raw_cut front back (subst IsOneValue (sym p) f) some;
+  stays = λ _ bytes more e other h. raw_stays bytes more e other h;
 }
 
 pub raw_writable : Writable raw_form

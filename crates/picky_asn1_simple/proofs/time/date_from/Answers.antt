@@ -1,16 +1,16 @@
 use Rattle.picky_asn1_simple.specs.laws.Times.{time_again, time_bad}
 use Rattle.picky_asn1_simple.proofs.time.date_from.Goals as goal
 
-pub returns-in-Ok : goal.returns-in-Ok
-returns-in-Ok g c =
+pub returns-in-Ok-clause-answers : goal.returns-in-Ok-clause-answers
+returns-in-Ok-clause-answers g c =
     let form = g.TR.TimeRepr in
     let test = g.TR.DecidedTime in
     let law = g.met.TR.DecidedTime in
     let found = c.in-Ok.ensures.found in
     time_again form.IsYear test.is_year form.text test.numbers law.decides law.reads c.args.octets.now c.in-Ok.date (found.year, found.moment) found.text
 
-pub returns-in-Err : goal.returns-in-Err
-returns-in-Err g c =
+pub returns-in-Err-clause-answers : goal.returns-in-Err-clause-answers
+returns-in-Err-clause-answers g c =
     let form = g.TR.TimeRepr in
     let test = g.TR.DecidedTime in
     let law = g.met.TR.DecidedTime in

@@ -11,5 +11,5 @@ returns-clause-one c =
     let bytes = c.args.bytes.now in
     let rest = c.read_raw.new.self.left in
     let e = rw c.new-reader.ensures at c.in_ok-read_raw.ensures.reads.0 in
-    OnOk-answers (IsOneValue bytes) c.end.result (end_at rest) c.end.ensures
+    OnOk-answers (IsOneValue bytes) c.end.result (end_at rest) c.end.ensures.answers
     (λ u n. raw_alone_is bytes c.in_ok-read_raw.field-0.now rest u (TailIsBytes-of bytes (λ i. omega (arith, c.type_inv.bytes i))) e n)

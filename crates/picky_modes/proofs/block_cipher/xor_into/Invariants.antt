@@ -1,6 +1,6 @@
 use Rattle.std.proofs.Common.{◌≡◌, ◌++◌, take, drop}
-use Rattle.picky_modes.specs.Blocks.{xor}
+use Rattle.picky_aes.specs.Cipher.{add_bytes}
 use Rattle.picky_modes.proofs.block_cipher.xor_into.Given as goal
 
 abbrev pub invariant-loop-i : goal.invariant-loop-i
-invariant-loop-i l = l.block ≡ xor (take l.i l.fn.block) (take l.i l.mask) ++ drop l.i l.fn.block
+invariant-loop-i l = l.block ≡ add_bytes (take l.i l.fn.block) (take l.i l.mask) ++ drop l.i l.fn.block

@@ -1,0 +1,69 @@
+// Object identifiers. One is given by its contents octets; a refusal is answered by its name.
+//
+//     oid.from_text TEXT               the contents
+//     oid.from_contents BYTES          the text
+//     oid.copy CONTENTS                the copy's contents
+//     oid.is_that_of CONTENTS TEXT     whether the two are equal
+//     oid.error NAME                   what `{}` prints of a refusal
+use anyhow::{Result, bail};
+use picky_asn1::CopyIn;
+use picky_asn1::oid::{ObjectIdentifier, OidError};
+use rows::{Answer, Words};
+use std::alloc::Global;
+
+pub(crate) fn answer(alloc: Global, call: &str, words: &mut Words<'_>) -> Result<Answer> {
+    match call {
+        "from_text" => from_text(alloc, words.rest()),
+        "from_contents" => from_contents(alloc, words),
+        "copy" => copied(alloc, words),
+        "is_that_of" => is_that_of(alloc, words),
+        "error" => error(alloc, words.next()),
+        _ => bail!("no such call"),
+    }
+}
+
+fn refusal(error: &OidError) -> Answer {
+    match error {
+        OidError::BadText => Answer::Word("BadText"),
+        OidError::BadContents => Answer::Word("BadContents"),
+        OidError::OutOfMemory => Answer::Word("OutOfMemory"),
+    }
+}
+
+fn from_text(alloc: Global, text: &str) -> Result<Answer> {
+    match ObjectIdentifier::from_text(alloc, text) {
+        Ok(identifier) => Answer::bytes(alloc, identifier.contents()),
+        Err(error) => Ok(refusal(&error)),
+    }
+}
+
+fn from_contents(alloc: Global, words: &mut Words<'_>) -> Result<Answer> {
+    match ObjectIdentifier::from_contents(alloc, &words.bytes(alloc)?) {
+        Ok(identifier) => Ok(Answer::Text(identifier.to_text(alloc)?)),
+        Err(error) => Ok(refusal(&error)),
+    }
+}
+
+fn identifier(alloc: Global, words: &mut Words<'_>) -> Result<ObjectIdentifier> {
+    Ok(ObjectIdentifier::from_contents(alloc, &words.bytes(alloc)?)?)
+}
+
+fn copied(alloc: Global, words: &mut Words<'_>) -> Result<Answer> {
+    let identifier = identifier(alloc, words)?;
+    Answer::bytes(alloc, identifier.copy_in(alloc)?.contents())
+}
+
+fn is_that_of(alloc: Global, words: &mut Words<'_>) -> Result<Answer> {
+    let identifier = identifier(alloc, words)?;
+    let other = ObjectIdentifier::from_text(alloc, words.rest())?;
+    Ok(Answer::Truth(identifier == other))
+}
+
+fn error(alloc: Global, name: &str) -> Result<Answer> {
+    match name {
+        "BadText" => Answer::display(alloc, &OidError::BadText),
+        "BadContents" => Answer::display(alloc, &OidError::BadContents),
+        "OutOfMemory" => Answer::display(alloc, &OidError::OutOfMemory),
+        _ => bail!("no such refusal"),
+    }
+}

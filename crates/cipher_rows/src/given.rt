@@ -1,0 +1,43 @@
+// What several calls are given: a key's cipher, blocks, nonces, bytes that are counted out, and hashes by name.
+use anyhow::{Context, Result, bail};
+use hex::FromHex;
+use picky_cipher::{Aes, Pkcs12HashAlgorithm};
+use rows::Words;
+use std::alloc::{AllocError, Global};
+
+// The cipher under a key.
+pub(crate) fn aes(alloc: Global, words: &mut Words<'_>) -> Result<Aes> {
+    let key = words.bytes(alloc)?;
+    match key.len() {
+        16 | 24 | 32 => Ok(Aes::new(&key)),
+        size => bail!("a key of {size} bytes"),
+    }
+}
+
+pub(crate) fn block(words: &mut Words<'_>) -> Result<[u8; 16]> {
+    <[u8; 16] as FromHex>::from_hex(words.next()).context("a block of 16 bytes is missing")
+}
+
+pub(crate) fn nonce(words: &mut Words<'_>) -> Result<[u8; 12]> {
+    <[u8; 12] as FromHex>::from_hex(words.next()).context("a nonce of 12 bytes is missing")
+}
+
+// So many bytes counted out: byte `j` is `j % 251`.
+pub(crate) fn counted(alloc: Global, size: usize) -> Result<Vec<u8>, AllocError> {
+    let mut bytes = Vec::new(alloc);
+    for j in 0..size {
+        bytes.push((j % 251) as u8)?;
+    }
+    Ok(bytes)
+}
+
+pub(crate) fn hash(words: &mut Words<'_>) -> Result<Pkcs12HashAlgorithm> {
+    match words.next() {
+        "sha1" => Ok(Pkcs12HashAlgorithm::Sha1),
+        "sha224" => Ok(Pkcs12HashAlgorithm::Sha224),
+        "sha256" => Ok(Pkcs12HashAlgorithm::Sha256),
+        "sha384" => Ok(Pkcs12HashAlgorithm::Sha384),
+        "sha512" => Ok(Pkcs12HashAlgorithm::Sha512),
+        _ => bail!("no such hash"),
+    }
+}

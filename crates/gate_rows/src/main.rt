@@ -1,0 +1,26 @@
+//! Answers rows that name the calls of the gate: the program over documents and outputs in memory, and over files.
+#![tactic(auto)]
+
+mod files;
+mod outcomes;
+mod runs;
+
+use anyhow::{Result, bail};
+use rows::{Answer, HostCalls, Words, answer_host_rows};
+use std::process::ExitCode;
+
+struct Gate;
+
+impl HostCalls for Gate {
+    fn answer(rt: &HostRuntime, notion: &str, call: &str, words: &mut Words<'_>) -> Result<Answer> {
+        match notion {
+            "gate" => runs::answer(rt, call, words),
+            "file" => files::answer(rt, call, words),
+            _ => bail!("no such call"),
+        }
+    }
+}
+
+fn main(rt: HostRuntime) -> Result<ExitCode> {
+    answer_host_rows::<Gate>(&rt)
+}

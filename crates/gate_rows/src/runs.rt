@@ -1,0 +1,91 @@
+// The program over documents and an output in memory.
+//
+//     gate.run WORDS                      STATUS TEXT, with room for 100 bytes
+//     gate.run_in ROOM WORDS              STATUS LEFT TEXT, with so much room, at most 100, and what of it is left
+//     gate.run_over PATH BYTES WORDS      STATUS TEXT, where these bytes were put under the path before
+//     gate.asked WORDS                    the paths that the cabinet was asked for, each behind a bar
+//
+// WORDS are those of the program, each behind a bar. What they name is held where it is a file of the folder `data`,
+// or `full` or `long`, which are spaces up to the greatest length of a document and one above it.
+use crate::outcomes::{program_words, status_and_text, status_left_and_text};
+use anyhow::{Result, bail};
+use picky_gate::{MemoryCabinet, MemorySink, run};
+use rows::{Answer, Words};
+use std::alloc::AllocError;
+use std::fs;
+
+const LIMIT: usize = 1_048_576;
+
+fn document(rt: &HostRuntime, path: &str) -> Result<Option<Vec<u8>>, AllocError> {
+    let alloc = rt.alloc();
+    match path {
+        "full" => Ok(Some(vec![in alloc; b' '; LIMIT]?)),
+        "long" => Ok(Some(vec![in alloc; b' '; LIMIT + 1]?)),
+        _ => Ok(fs::read(rt, path).ok()),
+    }
+}
+
+fn cabinet(rt: &HostRuntime, words: &[String]) -> Result<MemoryCabinet, AllocError> {
+    let mut cabinet = MemoryCabinet::new(rt.alloc());
+    for word in words {
+        if let Some(bytes) = document(rt, word)? {
+            cabinet.put(word, bytes)?;
+        }
+    }
+    Ok(cabinet)
+}
+
+pub(crate) fn answer(rt: &HostRuntime, call: &str, words: &mut Words<'_>) -> Result<Answer> {
+    match call {
+        "run" => run_with_room(rt, words),
+        "run_in" => run_in(rt, words),
+        "run_over" => run_over(rt, words),
+        "asked" => asked(rt, words),
+        _ => bail!("no such call"),
+    }
+}
+
+fn run_with_room(rt: &HostRuntime, words: &mut Words<'_>) -> Result<Answer> {
+    let alloc = rt.alloc();
+    let words = program_words(alloc, words)?;
+    let mut cabinet = cabinet(rt, &words)?;
+    let mut out = MemorySink::new(alloc, 100)?;
+    let status = run(alloc, &words, &mut cabinet, &mut out);
+    status_and_text(alloc, status.code, &out)
+}
+
+fn run_in(rt: &HostRuntime, words: &mut Words<'_>) -> Result<Answer> {
+    let alloc = rt.alloc();
+    let room = words.size()?;
+    let words = program_words(alloc, words)?;
+    let mut cabinet = cabinet(rt, &words)?;
+    let mut out = MemorySink::new(alloc, room)?;
+    let status = run(alloc, &words, &mut cabinet, &mut out);
+    status_left_and_text(alloc, status.code, out)
+}
+
+fn run_over(rt: &HostRuntime, words: &mut Words<'_>) -> Result<Answer> {
+    let alloc = rt.alloc();
+    let path = words.next();
+    let bytes = words.bytes(alloc)?;
+    let words = program_words(alloc, words)?;
+    let mut cabinet = cabinet(rt, &words)?;
+    cabinet.put(path, bytes)?;
+    let mut out = MemorySink::new(alloc, 100)?;
+    let status = run(alloc, &words, &mut cabinet, &mut out);
+    status_and_text(alloc, status.code, &out)
+}
+
+fn asked(rt: &HostRuntime, words: &mut Words<'_>) -> Result<Answer> {
+    let alloc = rt.alloc();
+    let words = program_words(alloc, words)?;
+    let mut cabinet = cabinet(rt, &words)?;
+    let mut out = MemorySink::new(alloc, 100)?;
+    let _status = run(alloc, &words, &mut cabinet, &mut out);
+    let mut paths = String::new(alloc);
+    for path in cabinet.asked() {
+        paths.push('|')?;
+        paths.push_str(path)?;
+    }
+    Answer::lines(alloc, &paths)
+}

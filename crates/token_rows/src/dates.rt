@@ -1,0 +1,71 @@
+// Dates, and the claims of tokens.
+//
+//     date.print SECONDS LEEWAY                  the date as it is printed
+//     date.print_new SECONDS                     the same, without leeway
+//     date.is_before SECONDS LEEWAY OTHER
+//     date.is_before_strict SECONDS LEEWAY OTHER
+//     date.is_after SECONDS LEEWAY OTHER
+//     date.is_after_strict SECONDS LEEWAY OTHER
+//     jwt.validate SECONDS LEEWAY CLAIMS         `Ok`, or the refusal
+use anyhow::{Context, Result, bail};
+use picky_jose::{Jws, JwsHeader, JwtDate, JwtSig, JwtValidator};
+use picky_jwk::JwsAlg;
+use rows::{Answer, Words};
+use std::alloc::Global;
+
+/// The seconds of the next word.
+pub(crate) fn seconds(words: &mut Words<'_>) -> Result<i64> {
+    i64::try_from(words.number()?)
+        .ok()
+        .context("no such second")
+}
+
+/// The date and the leeway of the next two words.
+pub(crate) fn date(words: &mut Words<'_>) -> Result<JwtDate> {
+    let seconds = seconds(words)?;
+    let leeway = u16::try_from(words.number()?)
+        .ok()
+        .context("no such leeway")?;
+    Ok(JwtDate::new_with_leeway(seconds, leeway))
+}
+
+pub(crate) fn answer_of_date(alloc: Global, call: &str, words: &mut Words<'_>) -> Result<Answer> {
+    match call {
+        "print" => Answer::display(alloc, &date(words)?),
+        "print_new" => Answer::display(alloc, &JwtDate::new(seconds(words)?)),
+        _ => compared(call, words),
+    }
+}
+
+fn compared(call: &str, words: &mut Words<'_>) -> Result<Answer> {
+    let date = date(words)?;
+    let other = seconds(words)?;
+    match call {
+        "is_before" => Ok(Answer::Truth(date.is_before(other))),
+        "is_before_strict" => Ok(Answer::Truth(date.is_before_strict(other))),
+        "is_after" => Ok(Answer::Truth(date.is_after(other))),
+        "is_after_strict" => Ok(Answer::Truth(date.is_after_strict(other))),
+        _ => bail!("no such call"),
+    }
+}
+
+pub(crate) fn answer(alloc: Global, call: &str, words: &mut Words<'_>) -> Result<Answer> {
+    match call {
+        "validate" => validate(alloc, words),
+        _ => bail!("no such call"),
+    }
+}
+
+fn validate(alloc: Global, words: &mut Words<'_>) -> Result<Answer> {
+    let date = date(words)?;
+    let header = JwsHeader {
+        alg: JwsAlg::EdDSA,
+        kid: None,
+    };
+    let payload = words.rest().as_bytes().to_vec(alloc)?;
+    let token = JwtSig::from(Jws { header, payload });
+    match token.validate(alloc, &JwtValidator::lenient(date)) {
+        Ok(_) => Ok(Answer::Word("Ok")),
+        Err(error) => Answer::debug(alloc, &error),
+    }
+}

@@ -1,0 +1,50 @@
+// Signed tokens that are read. A refusal is answered as it is.
+//
+//     jws.decode TEXT                        `Ok`
+//     jws.payload TEXT                       the payload
+//     jws.kid TEXT                           the key's name, or `none`
+//     jws.copy TEXT                          the text of a copy
+//     jws.verify ALG KEY TEXT RECORDS        `Ok`; any text under any name, by a provider of these records
+use crate::signatures;
+use anyhow::{Result, bail};
+use picky_jose::RawJws;
+use rows::{Answer, Words};
+use std::alloc::Global;
+use std::borrow::CowStr;
+
+pub(crate) fn answer(alloc: Global, call: &str, words: &mut Words<'_>) -> Result<Answer> {
+    match call {
+        "verify" => signatures::verify(alloc, words),
+        "decode" | "payload" | "kid" | "copy" => read(alloc, call, words.rest()),
+        _ => bail!("no such call"),
+    }
+}
+
+fn read(alloc: Global, call: &str, text: &str) -> Result<Answer> {
+    match RawJws::decode(alloc, CowStr::Borrowed(text)) {
+        Ok(token) => seen(alloc, call, &token),
+        Err(error) => Answer::debug(alloc, &error),
+    }
+}
+
+fn seen(alloc: Global, call: &str, token: &RawJws<'_>) -> Result<Answer> {
+    match call {
+        "decode" => Ok(Answer::Word("Ok")),
+        "payload" => Answer::bytes(alloc, token.peek_payload()),
+        "kid" => kid(alloc, token),
+        "copy" => copy(alloc, token),
+        _ => bail!("no such call"),
+    }
+}
+
+fn kid(alloc: Global, token: &RawJws<'_>) -> Result<Answer> {
+    match &token.header.kid {
+        Some(kid) => Answer::text(alloc, kid),
+        None => Ok(Answer::Word("none")),
+    }
+}
+
+fn copy(alloc: Global, token: &RawJws<'_>) -> Result<Answer> {
+    let copy = token.clone(alloc)?;
+    Answer::text(alloc, copy.compact_repr.as_str())
+}

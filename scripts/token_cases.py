@@ -1,0 +1,153 @@
+#!/usr/bin/env python3
+"""Prints rows of `token_rows` that Python makes: JSON by its json, bytes by its base64, dates by its integers.
+
+Each row stands in crates/token_rows/stdout.
+"""
+import base64
+import json
+
+DEEPEST = 127
+
+
+class Float:
+    """A number that is held as a float."""
+
+
+def integer(text):
+    value = int(text)
+    return value if text != "-0" and -(2**63) <= value < 2**64 else Float()
+
+
+def number(text):
+    if float(text) in (float("inf"), float("-inf")):
+        raise ValueError("the number is too great")
+    return Float()
+
+
+def has_float(tree):
+    if isinstance(tree, dict):
+        return any(map(has_float, tree.values()))
+    if isinstance(tree, list):
+        return any(map(has_float, tree))
+    return isinstance(tree, Float)
+
+
+def compact(text):
+    try:
+        tree = json.loads(text, parse_int=integer, parse_float=number)
+        if has_float(tree):
+            return "float"
+        spelled = json.dumps(tree, sort_keys=True, separators=(",", ":"), ensure_ascii=False)
+        spelled.encode()
+        return spelled
+    except ValueError:
+        return "none"
+
+
+def json_rows():
+    print("# JSON: compact texts by Python's json, with the bounds of 64 bits")
+    for name, text in [
+        ("an object", '{"exp":100}'),
+        ("white space and the order of names", ' { "b" : [ ] , "a" : "\\u00e9" }'),
+        ("the greatest i64", "9223372036854775807"),
+        ("one above the greatest i64", "9223372036854775808"),
+        ("the greatest u64", "18446744073709551615"),
+        ("one above the greatest u64", "18446744073709551616"),
+        ("the least i64", "-9223372036854775808"),
+        ("one below the least i64", "-9223372036854775809"),
+        ("zero with a sign", "-0"),
+        ("a float inside", '[1,{"a":[1.5]}]'),
+        ("a float that a later member hides", '{"a":1.5,"a":1}'),
+        ("a number above all floats", "1e999"),
+        ("a comma too many", '{"a":1,}'),
+        ("no text", ""),
+        ("half a surrogate pair", '"\\ud800"'),
+    ]:
+        asked = f"{name}: json.compact {text}".rstrip()
+        print(f"{asked} => {compact(text)}")
+    for depth in [1, DEEPEST, DEEPEST + 1, 1000]:
+        print(f"lists nested {depth} deep: json.nested {depth} => {'tree' if depth <= DEEPEST else 'none'}")
+    text = 'a"b\\\n\u00e9'
+    row = text.replace("\\", "\\\\").replace("\n", "\\n")
+    print(f"a text with what is escaped: json.quote {row} => {json.dumps(text, ensure_ascii=False)}")
+
+
+def part_rows():
+    print("# The parts of the token of RFC 7515, appendix A.1, by Python's base64")
+    for name, text in [
+        ("the header", "eyJ0eXAiOiJKV1QiLA0KICJhbGciOiJIUzI1NiJ9"),
+        (
+            "the payload",
+            "eyJpc3MiOiJqb2UiLA0KICJleHAiOjEzMDA4MTkzODAsDQogImh0dHA6Ly9leGFtcGxlLmNvbS9pc19yb290Ijp0cnVlfQ",
+        ),
+        ("the signature", "dBjftJeZ4CVP-mB92K27uhbUJU1p1r_wW1gFWFOEjXk"),
+    ]:
+        read = base64.urlsafe_b64decode(text + "=" * (-len(text) % 4))
+        print(f"{name} of appendix A.1: base64.decode url {text} => {read.hex()}")
+
+
+GREATEST = 2**63 - 1
+LEAST = -(2**63)
+
+
+def validated(claims, now, leeway):
+    """What `validate` answers of claims with the one date `nbf` or `exp`, in whole numbers."""
+    date = f"JwtDate {{ numeric_date: {now}, leeway: {leeway} }}"
+    [(claim, at)] = json.loads(claims).items()
+    if not (isinstance(at, int) and LEAST <= at <= GREATEST):
+        return f'InvalidRegisteredClaimType {{ claim: "{claim}" }}'
+    if claim == "nbf" and now < at - leeway:
+        return f"NotYetValid {{ not_before: {at}, now: {date} }}"
+    if claim == "exp" and now >= at + leeway:
+        return f"Expired {{ not_after: {at}, now: {date} }}"
+    return "Ok"
+
+
+def claims_rows():
+    print("# Claims with a date: inequalities of Python's integers")
+    for name, claims, now, leeway in [
+        ("a second before the end", '{"exp":100}', 99, 0),
+        ("the end", '{"exp":100}', 100, 0),
+        ("the end with a leeway", '{"exp":100}', 100, 1),
+        ("a second before the start", '{"nbf":100}', 99, 0),
+        ("a second before the start, with a leeway", '{"nbf":100}', 99, 1),
+        ("the greatest end, then", '{"exp":9223372036854775807}', GREATEST, 0),
+        ("the greatest end, then, with the greatest leeway", '{"exp":9223372036854775807}', GREATEST, 65535),
+        ("the greatest end, a second before", '{"exp":9223372036854775807}', GREATEST - 1, 0),
+        ("the least end, then", '{"exp":-9223372036854775808}', LEAST, 0),
+        ("the least end, then, with the greatest leeway", '{"exp":-9223372036854775808}', LEAST, 65535),
+        ("the least end, the greatest leeway later", '{"exp":-9223372036854775808}', LEAST + 65535, 65535),
+        ("the least end, a second before", '{"exp":-9223372036854775808}', LEAST + 65534, 65535),
+        ("the greatest start, then", '{"nbf":9223372036854775807}', GREATEST, 0),
+        ("the greatest start, a second before", '{"nbf":9223372036854775807}', GREATEST - 1, 0),
+        ("the greatest start, the greatest leeway before", '{"nbf":9223372036854775807}', GREATEST - 65535, 65535),
+        ("the greatest start, a second more before", '{"nbf":9223372036854775807}', GREATEST - 65536, 65535),
+        ("the least start, then", '{"nbf":-9223372036854775808}', LEAST, 0),
+        ("the least start, then, with the greatest leeway", '{"nbf":-9223372036854775808}', LEAST, 65535),
+        ("an end that is no number", '{"exp":null}', 1, 0),
+        ("an end one above the greatest i64", '{"exp":9223372036854775808}', 1, 0),
+    ]:
+        print(f"{name}: jwt.validate {now} {leeway} {claims} => {validated(claims, now, leeway)}")
+
+
+def date_rows():
+    print("# Dates: inequalities of Python's integers")
+    now, leeway = 100, 10
+    for call, holds, others in [
+        ("is_before", lambda other: now <= other + leeway, [90, 89]),
+        ("is_before_strict", lambda other: now < other + leeway, [90, 91]),
+        ("is_after", lambda other: now >= other - leeway, [110, 111]),
+        ("is_after_strict", lambda other: now > other - leeway, [109, 110]),
+    ]:
+        for other in others:
+            name = f"{now} {call.replace('_', ' ')} {other} with a leeway of {leeway}"
+            print(f"{name}: date.{call} {now} {leeway} {other} => {str(holds(other)).lower()}")
+
+
+json_rows()
+print()
+part_rows()
+print()
+claims_rows()
+print()
+date_rows()
