@@ -1,15 +1,15 @@
 #!/usr/bin/env python3
-"""Makes crates/picky_der_cases/src/types.rt: encodings of one type each, good, cut and damaged at each byte, with what
-python's `cryptography` (its module `hazmat.asn1`, over the Rust crate `asn1`) makes of them; and encodings that
-`openssl asn1parse -genstr` wrote.
+"""Prints rows of crates/der_rows: encodings of one type each, good, cut and damaged at each byte, with what python's
+`cryptography` (its module `hazmat.asn1`, over the Rust crate `asn1`) makes of them; and encodings that
+`openssl asn1parse -genstr` wrote, each beside the text that it was given.
 
-Each line of the first table is a type, the bytes in hexadecimal, and a verdict: `read` where the other reader reads
-them (and, but for integers, writes the same bytes again), `-` where it refuses them, or, where the two profiles differ, why the bytes are
-read here and not there:
+The answer of a row of the first kind is `true` where the other reader reads the bytes (and, but for integers, writes the same
+bytes again), else `false`. Where the two profiles differ the answer is `true`, and the row's name says why the bytes are read
+here alone:
 
-  unused   unused bits of a BIT STRING that aren't 0
-  day      a day from 29 to 31 that isn't in its month, or the year 0
-  any      parameters that aren't NULL, the only ones that the other reader was asked for
+- unused bits of a BIT STRING that aren't 0;
+- a day from 29 to 31 that isn't in its month, or the year 0;
+- parameters that aren't NULL, the only ones that the other reader was asked for.
 
 Run at the root of the repository: python3 scripts/picky_der_types_table.py
 """
@@ -85,7 +85,7 @@ def held(kind, data):
         return None
     body = data[2:]
     if kind == "bits" and data[0] == 3 and len(body) > 1 and 0 < body[0] < 8 and body[-1] % 2 ** body[0]:
-        return "unused"
+        return "unused bits that aren't 0"
     if kind in ("utctime", "generalizedtime") and data[0] == {"utctime": 0x17, "generalizedtime": 0x18}[kind]:
         size = 13 if kind == "utctime" else 15
         if len(body) == size and body[:-1].isdigit() and body[-1:] == b"Z":
@@ -95,7 +95,7 @@ def held(kind, data):
             year, month, day, hour, minute, second = int(text[:4]), *(int(text[i : i + 2]) for i in range(4, 14, 2))
             if 1 <= month <= 12 and 1 <= day <= 31 and hour < 24 and minute < 60 and second < 60:
                 if year == 0 or day > calendar.monthrange(max(year, 1), month)[1]:
-                    return "day"
+                    return "a day that isn't in its month, or the year 0"
     if kind == "algorithm" and data[0] == 0x30 and len(body) > 2 and body[0] == 6:
         rest = body[2 + body[1] :]
         try:
@@ -103,36 +103,40 @@ def held(kind, data):
         except ValueError:
             return None
         if len(rest) > 1 and rest[0] % 32 != 31 and rest[0] != 5 and rest[1] == len(rest) - 2:
-            return "any"
+            return "parameters that aren't NULL"
     return None
 
 
 def verdict(kind, cls, data):
+    """The answer, and why it isn't the other reader's, or None."""
     try:
         value = asn1.decode_der(cls, data)
     except ValueError:
-        return held(kind, data) or "-"
+        why = held(kind, data)
+        return ("true" if why else "false"), why
     if kind != "integer":  # the other writer has machine integers alone
         assert asn1.encode_der(value) == data, (kind, data.hex())
-    return "read"
+    return "true", None
 
 
 def cases(kind, goods):
-    for good in goods:
-        yield good
+    """A name and bytes."""
+    for number, good in enumerate(goods, 1):
+        value = f"{kind} {number}"
+        yield value, good
         for i in range(min(len(good), 24)):
-            yield good[:i]
-            for flip in (0x01, 0x80):
+            yield f"{value} cut to {i} bytes", good[:i]
+            for bit in (0, 7):
                 damaged = bytearray(good)
-                damaged[i] ^= flip
-                yield bytes(damaged)
-        yield good + b"\x00"
-        yield good[:1] + b"\x81" + good[1:]
-    for text in MORE[kind]:
-        yield bytes.fromhex(text)
+                damaged[i] ^= 1 << bit
+                yield f"{value} with bit {bit} of byte {i} changed", bytes(damaged)
+        yield f"{value} and a byte behind it", good + b"\x00"
+        yield f"{value} with a length in the long form", good[:1] + b"\x81" + good[1:]
+    for number, text in enumerate(MORE[kind], 1):
+        yield f"{kind} of another shape, {number}", bytes.fromhex(text)
 
 
-# Types and texts, whose encodings `openssl` writes: those that the other reader doesn't know.
+# Types and texts, whose encodings `openssl` writes: those that the other reader doesn't know, and some that it does.
 WRITTEN = [
     ("bmp", "User", "BMPSTRING:User"),
     ("bmp", "苗字", "FORMAT:UTF8,BMPSTRING:苗字"),
@@ -141,36 +145,44 @@ WRITTEN = [
     ("printable", "Test", "PRINTABLESTRING:Test"),
     ("ia5", "a@b", "IA5STRING:a@b"),
     ("utf8", "苗字", "FORMAT:UTF8,UTF8String:苗字"),
-    ("identifier", "1.2.840.113549.1.12.10.1.2", "OID:1.2.840.113549.1.12.10.1.2"),
-    ("utctime", "500101000000Z", "UTCTIME:500101000000Z"),
-    ("generalizedtime", "20501231235959Z", "GENERALIZEDTIME:20501231235959Z"),
 ]
+IDENTIFIER = "1.2.840.113549.1.12.10.1.2"
+UTC = ("500101000000Z", "1950 1 1 0 0 0")
+GENERALIZED = ("20501231235959Z", "2050 12 31 23 59 59")
+
+
+def written():
+    """Rows of values that are written as `openssl` writes them, and of texts that are read of its bytes."""
+    for kind, text, genstr in WRITTEN:
+        data = openssl(genstr).hex()
+        yield f"{kind} {text!r} is written: der_string.of {kind} {text} => {data}"
+        yield f"{kind} {text!r} is read: der_string.text {kind} {data} => {text}"
+    data = openssl("OID:" + IDENTIFIER).hex()
+    yield f"an identifier is written: der_oid.of {IDENTIFIER} => {data}"
+    yield f"an identifier is read: der_oid.text {data} => {IDENTIFIER}"
+    text, numbers = UTC
+    data = openssl("UTCTIME:" + text).hex()
+    yield f"a UTCTime is written: der_time.utc {numbers} => {data}"
+    yield f"a UTCTime is read: der_time.date {data} => {numbers}"
+    text, numbers = GENERALIZED
+    data = openssl("GENERALIZEDTIME:" + text).hex()
+    yield f"a GeneralizedTime is written: der_time.generalized {numbers} => {data}"
+    yield f"a GeneralizedTime is read: der.comes_back generalizedtime {data} => true"
 
 
 def main():
-    lines, seen = [], set()
+    print("# Encodings of one type each, with what python's `cryptography` makes of them (scripts/picky_der_types_table.py).")
+    seen = set()
     for kind, (cls, goods) in TYPES.items():
-        for data in cases(kind, goods):
+        for name, data in cases(kind, goods):
             if data and (kind, data) not in seen:
                 seen.add((kind, data))
-                lines.append(f"{kind} {data.hex()} {verdict(kind, cls, data)}")
-    with open("crates/picky_der_cases/src/types.rt", "w") as out:
-        out.write("// Made by scripts/picky_der_types_table.py: a type, bytes, and whether python's `cryptography` reads them as a value\n")
-        out.write("// of it, or why they are read here alone (the script says what each verdict means).\n")
-        out.write('pub const TYPES: &str = "\\\n')
-        for pair in zip(lines[::2], lines[1::2] + [""]):
-            out.write("".join(line + "\\n" for line in pair if line) + "\\\n")
-        out.write('";\n\n')
-        out.write("// Made by the same script: a type, the bytes that `openssl asn1parse -genstr` writes, and the text that it was given.\n")
-        out.write('pub const WRITTEN: &str = "\\\n')
-        for kind, text, genstr in WRITTEN:
-            out.write(f"{kind} {openssl(genstr).hex()} {text}\\n\\\n")
-        out.write('";\n')
-    counts = {}
-    for line in lines:
-        word = line.split()[-1]
-        counts[word] = counts.get(word, 0) + 1
-    print(len(lines), "cases", counts)
+                answer, why = verdict(kind, cls, data)
+                name += f", read here alone for {why}" if why else ""
+                print(f"{name}: der.comes_back {kind} {data.hex()} => {answer}")
+    print("\n# Values that `openssl asn1parse -genstr` wrote (scripts/picky_der_types_table.py).")
+    for row in written():
+        print(row)
 
 
 main()
