@@ -1,7 +1,8 @@
 -- The cipher reads its key schedule at the front of the array alone.
 use Rattle.std.proofs.Common.{◌≡◌, ℕ, zero, suc, ◌+◌, ◌-◌, ◌*◌, ◌/◌, ◌<◌, ◌≤◌, List, [], ◌++◌, length, take, drop, slice_index, refl, sym, ap, ◌∙◌, arith, append_assoc, inl, inr}
 use Rattle.std.proofs.lemmas.List.{append-nil, drop-take, length-take-le, take-take, take_at}
-use Rattle.picky_aes.specs.Cipher.{IsBlock, IsKeySize, add_bytes, cipher, cipher_under, key_step, mix_columns, round_key, rounds, schedule, shift_rows, sub_bytes, word_at}
+use Rattle.picky_contract.specs.Sums.{add_bytes}
+use Rattle.picky_aes.specs.Cipher.{IsBlock, IsKeySize, cipher, cipher_under, key_step, mix_columns, round_key, rounds, schedule, shift_rows, sub_bytes, word_at}
 use Rattle.picky_aes.specs.Expanded.{IsExpanded, IsWordCount}
 use Rattle.picky_aes.proofs.Schedule.{key_size-range}
 use Rattle.picky_aes.proofs.Inverse.{HasKeys, IsBlock-cipher, cipher-alone}

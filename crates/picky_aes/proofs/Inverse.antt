@@ -7,7 +7,8 @@ use Rattle.std.proofs.lemmas.Bool.{cases_lt}
 use Rattle.std.proofs.lemmas.Nat.{xor_of_8}
 use Rattle.std.proofs.lemmas.List.{get_or-map, get_or-take, get_or-drop, get_or_past, length-drop, length-map, length-take}
 use Rattle.std.proofs.lemmas.List.FromFn.{get_or-map-range_with_len, length-map-range_with_len}
-use Rattle.picky_aes.specs.Cipher.{IsBlock, add_bytes, cipher_under, column_product, mix_columns, round_key, rounds, shift_rows, sub_bytes, times_columns}
+use Rattle.picky_contract.specs.Sums.{add_bytes}
+use Rattle.picky_aes.specs.Cipher.{IsBlock, cipher_under, column_product, mix_columns, round_key, rounds, shift_rows, sub_bytes, times_columns}
 use Rattle.picky_aes.specs.Field.{substitute}
 use Rattle.picky_aes.specs.declared.tables.TheConstants.{INVERSE_SBOX}
 use Rattle.picky_aes.proofs.Columns.{by_places, columns_back, columns_forth}

@@ -1,6 +1,7 @@
 -- One step of each loop, and the columns.
 use Rattle.std.proofs.Common.{◌≡◌, ℕ, zero, suc, ◌+◌, ◌<◌, List, [], ◌∷◌, ◌++◌, length, map, take, drop, get_or, set, refl, ap, arith, bit_xor, add-one, slice_range, ◌*◌, ◌∙◌}
-use Rattle.picky_aes.specs.Cipher.{add_bytes, mix_columns, cipher_under, round_key, rounds, shift_rows, sub_bytes}
+use Rattle.picky_contract.specs.Sums.{add_bytes}
+use Rattle.picky_aes.specs.Cipher.{mix_columns, cipher_under, round_key, rounds, shift_rows, sub_bytes}
 use Rattle.picky_aes.specs.Field.{product, times_x}
 use Rattle.picky_aes.proofs.Table.{product-1, product-2, product-3}
 

@@ -5,7 +5,8 @@ use Rattle.std.specs.Int.Bits.{xor_zero_r}
 use Rattle.std.proofs.lemmas.List.{drop-take, drop_more, length-append, length-take-le, take-take, take_at}
 use Rattle.std.proofs.lemmas.Bool.{agree_below_at, eqb-true}
 use Rattle.std.proofs.lemmas.List.FromFn.{fill_by_all}
-use Rattle.picky_aes.specs.Cipher.{add_bytes, key_step, power_of_x, schedule, word_at}
+use Rattle.picky_contract.specs.Sums.{add_bytes}
+use Rattle.picky_aes.specs.Cipher.{key_step, power_of_x, schedule, word_at}
 use Rattle.picky_aes.specs.Expanded.{IsWordCount}
 use Rattle.picky_aes.specs.Field.{substitute}
 use Rattle.picky_aes.specs.declared.key_schedule.TheConstants.{POWERS}

@@ -1,6 +1,7 @@
 // The key expansion (FIPS 197, 5.2), word by word.
 ghost use Rattle.std.specs.Prelude.{◌≡◌, ◌<◌, ◌≤◌, ◌+◌, ◌*◌, length, take};
-ghost use Rattle.picky_aes.specs.Cipher.{add_bytes, key_step, schedule, word_at};
+ghost use Rattle.picky_contract.specs.Sums.{add_bytes};
+ghost use Rattle.picky_aes.specs.Cipher.{key_step, schedule, word_at};
 ghost use Rattle.picky_aes.specs.Expanded.{IsWordCount};
 
 use crate::steps::substituted;

@@ -1,6 +1,7 @@
 // The steps of a round, and the product with x on which MixColumns stands (FIPS 197, 4.2 and 5.1).
 ghost use Rattle.std.specs.Prelude.{◌≡◌, [], ◌∷◌, length, map};
-ghost use Rattle.picky_aes.specs.Cipher.{add_bytes, column_product, mix_columns, shift_rows, sub_bytes};
+ghost use Rattle.picky_contract.specs.Sums.{add_bytes};
+ghost use Rattle.picky_aes.specs.Cipher.{column_product, mix_columns, shift_rows, sub_bytes};
 ghost use Rattle.picky_aes.specs.Field.{substitute, times_x};
 
 use crate::tables::SBOX;

@@ -1,6 +1,7 @@
 -- Tags, and what a ciphertext and a tag open to.
 use Rattle.std.proofs.Common.{◌≡◌, ℕ, zero, suc, ◌+◌, ◌<◌, List, [], ◌∷◌, ◌++◌, length, take, drop, get_or, set, refl, sym, ap, ◌∙◌, arith, bit_xor, add-one, replicate}
-use Rattle.picky_aes.specs.Cipher.{add_bytes, cipher}
+use Rattle.picky_contract.specs.Sums.{add_bytes}
+use Rattle.picky_aes.specs.Cipher.{cipher}
 use Rattle.picky_gcm.specs.Counter.{counted, counter_block}
 use Rattle.picky_gcm.specs.Hash.{hash_of}
 use Rattle.picky_gcm.specs.Gcm.{Seal, Sealed, tag_of}

@@ -1,6 +1,7 @@
 -- GCM with AES, nonces of 12 bytes and tags of 16 (SP 800-38D, 7.1 and 7.2).
 use Rattle.std.specs.Prelude.{◌≡◌, ℕ, Option, MatchOption, List, replicate}
-use Rattle.picky_aes.specs.Cipher.{add_bytes, cipher}
+use Rattle.picky_contract.specs.Sums.{add_bytes}
+use Rattle.picky_aes.specs.Cipher.{cipher}
 use Rattle.picky_gcm.specs.Counter.{counted, counter_block}
 use Rattle.picky_gcm.specs.Hash.{hash_of}
 

@@ -1,6 +1,6 @@
 // Authenticated encryption and decryption (SP 800-38D, 7).
 ghost use Rattle.std.specs.Prelude.{◌≡◌, ◌≤◌, ◌-◌, ◌^◌, ◌↔◌, ℕ, List, length, IsNone, IsSome, option_map};
-ghost use Rattle.picky_aes.specs.Cipher.{add_bytes};
+ghost use Rattle.picky_contract.specs.Sums.{add_bytes};
 ghost use Rattle.picky_gcm.specs.Gcm.{Open, Seal, tag_of};
 
 use crate::counter::{count, stream_block};

@@ -5,34 +5,35 @@ use Rattle.std.specs.Int.Bits.{xor_zero_l}
 use Rattle.std.proofs.lemmas.List.{append-nil, length-take-le}
 use Rattle.picky_kdf.specs.Hash.{digest_size}
 use Rattle.picky_kdf.specs.Hmac.{hmac}
-use Rattle.picky_kdf.specs.Pbkdf2.{added, iterated, key_sum}
+use Rattle.picky_contract.specs.Sums.{add_bytes}
+use Rattle.picky_kdf.specs.Pbkdf2.{iterated, key_sum}
 use Rattle.picky_kdf.specs.declared.hash.Pkcs12HashAlgorithm.{Pkcs12HashAlgorithm}
 use Rattle.picky_kdf.proofs.Sizes.{digest_size-le}
 
-added-step : (xs ys : List ℕ) (i : ℕ) → i < length xs → i < length ys
-    → set (added (take i xs) (take i ys) ++ drop i xs) i (bit_xor (get_or (added (take i xs) (take i ys) ++ drop i xs) i 0) (get_or ys i 0))
-    ≡ added (take (suc i) xs) (take (suc i) ys) ++ drop (suc i) xs
-added-step [] ys i in_xs in_ys = absurd (omega arith)
-added-step (x ∷ xs) [] i in_xs in_ys = absurd (omega arith)
-added-step (x ∷ xs) (y ∷ ys) zero in_xs in_ys = refl
-added-step (x ∷ xs) (y ∷ ys) (suc i) in_xs in_ys = ap (λ t. bit_xor x y ∷ t) (added-step xs ys i (omega arith) (omega arith))
+add_bytes-step : (xs ys : List ℕ) (i : ℕ) → i < length xs → i < length ys
+    → set (add_bytes (take i xs) (take i ys) ++ drop i xs) i (bit_xor (get_or (add_bytes (take i xs) (take i ys) ++ drop i xs) i 0) (get_or ys i 0))
+    ≡ add_bytes (take (suc i) xs) (take (suc i) ys) ++ drop (suc i) xs
+add_bytes-step [] ys i in_xs in_ys = absurd (omega arith)
+add_bytes-step (x ∷ xs) [] i in_xs in_ys = absurd (omega arith)
+add_bytes-step (x ∷ xs) (y ∷ ys) zero in_xs in_ys = refl
+add_bytes-step (x ∷ xs) (y ∷ ys) (suc i) in_xs in_ys = ap (λ t. bit_xor x y ∷ t) (add_bytes-step xs ys i (omega arith) (omega arith))
 
 -- a loop that adds ys to xs in place
-pub added_more : (xs ys zs : List ℕ) (i : ℕ) → i < length xs → i < length ys → zs ≡ added (take i xs) (take i ys) ++ drop i xs
-    → set zs i (bit_xor (get_or zs i 0) (get_or ys i 0)) ≡ added (take (i + 1) xs) (take (i + 1) ys) ++ drop (i + 1) xs
-added_more xs ys zs i in_xs in_ys e = rw (e, add-one) (added-step xs ys i in_xs in_ys)
+pub added_more : (xs ys zs : List ℕ) (i : ℕ) → i < length xs → i < length ys → zs ≡ add_bytes (take i xs) (take i ys) ++ drop i xs
+    → set zs i (bit_xor (get_or zs i 0) (get_or ys i 0)) ≡ add_bytes (take (i + 1) xs) (take (i + 1) ys) ++ drop (i + 1) xs
+added_more xs ys zs i in_xs in_ys e = rw (e, add-one) (add_bytes-step xs ys i in_xs in_ys)
 
-take-added : (n : ℕ) (xs ys : List ℕ) → take n (added xs ys) ≡ added (take n xs) (take n ys)
-take-added zero xs ys = refl
-take-added (suc n) [] ys = refl
-take-added (suc n) (x ∷ xs) [] = refl
-take-added (suc n) (x ∷ xs) (y ∷ ys) = ap (λ t. bit_xor x y ∷ t) (take-added n xs ys)
+take-add_bytes : (n : ℕ) (xs ys : List ℕ) → take n (add_bytes xs ys) ≡ add_bytes (take n xs) (take n ys)
+take-add_bytes zero xs ys = refl
+take-add_bytes (suc n) [] ys = refl
+take-add_bytes (suc n) (x ∷ xs) [] = refl
+take-add_bytes (suc n) (x ∷ xs) (y ∷ ys) = ap (λ t. bit_xor x y ∷ t) (take-add_bytes n xs ys)
 
-added-zeros : (n : ℕ) (xs : List ℕ) → length xs ≡ n → added (replicate n 0) xs ≡ xs
-added-zeros zero [] e = refl
-added-zeros zero (x ∷ xs) e = absurd (omega arith)
-added-zeros (suc n) [] e = absurd (omega arith)
-added-zeros (suc n) (x ∷ xs) e = (λ i. xor_zero_l x i ∷ added-zeros n xs (omega arith) i)
+add_bytes-zeros : (n : ℕ) (xs : List ℕ) → length xs ≡ n → add_bytes (replicate n 0) xs ≡ xs
+add_bytes-zeros zero [] e = refl
+add_bytes-zeros zero (x ∷ xs) e = absurd (omega arith)
+add_bytes-zeros (suc n) [] e = absurd (omega arith)
+add_bytes-zeros (suc n) (x ∷ xs) e = (λ i. xor_zero_l x i ∷ add_bytes-zeros n xs (omega arith) i)
 
 -- U_1
 pub first-iterated : (hash : Pkcs12HashAlgorithm) (password salt : List ℕ) (number : ℕ) (bytes out : List ℕ) → bytes ≡ to_be_bytes w32 number → take (digest_size hash) out ≡ hmac hash password (salt ++ bytes)
@@ -46,7 +47,7 @@ pub first-sum : (hash : Pkcs12HashAlgorithm) (password salt : List ℕ) (number 
 unfolding key_sum
 first-sum hash password salt number out el e =
     let size : length (take (digest_size hash) out) ≡ digest_size hash = length-take-le (digest_size hash) out (omega (arith, digest_size-le hash)) in
-    sym (added-zeros (digest_size hash) (take (digest_size hash) out) size) ∙ ap (added (replicate (digest_size hash) 0)) e
+    sym (add_bytes-zeros (digest_size hash) (take (digest_size hash) out) size) ∙ ap (add_bytes (replicate (digest_size hash) 0)) e
 
 -- U_(n + 1) from U_n
 pub next-iterated : (hash : Pkcs12HashAlgorithm) (password salt : List ℕ) (number n size : ℕ) (last out : List ℕ) → size ≡ digest_size hash
@@ -58,9 +59,9 @@ next-iterated hash password salt number n size last out es el eo =
 
 -- U_1 + … + U_n + U_(n + 1)
 pub next-sum : (hash : Pkcs12HashAlgorithm) (password salt : List ℕ) (number n : ℕ) (out sum new : List ℕ)
-    → take (digest_size hash) sum ≡ key_sum hash password salt number n → take (digest_size hash) out ≡ iterated hash password salt number (n + 1) → new ≡ added sum out
+    → take (digest_size hash) sum ≡ key_sum hash password salt number n → take (digest_size hash) out ≡ iterated hash password salt number (n + 1) → new ≡ add_bytes sum out
     → take (digest_size hash) new ≡ key_sum hash password salt number (n + 1)
 unfolding key_sum
 next-sum hash password salt number n out sum new es eo en =
-    ap (take (digest_size hash)) en ∙ take-added (digest_size hash) sum out
-    ∙ (λ j. added (es j) ((eo ∙ ap (iterated hash password salt number) (add-one n)) j)) ∙ ap (key_sum hash password salt number) (sym (add-one n))
+    ap (take (digest_size hash)) en ∙ take-add_bytes (digest_size hash) sum out
+    ∙ (λ j. add_bytes (es j) ((eo ∙ ap (iterated hash password salt number) (add-one n)) j)) ∙ ap (key_sum hash password salt number) (sym (add-one n))

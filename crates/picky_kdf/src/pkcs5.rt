@@ -4,14 +4,15 @@ ghost use Rattle.std.specs.Prelude.{◌≡◌, ◌≤◌, ◌<◌, ◌+◌, ◌-
 ghost use Rattle.std.specs.Int.{div_ceil};
 ghost use Rattle.picky_kdf.specs.Hash.{digest_size};
 ghost use Rattle.picky_kdf.specs.Keyed.{IsKeyed};
-ghost use Rattle.picky_kdf.specs.Pbkdf2.{added, key_sum, pbkdf2};
+ghost use Rattle.picky_contract.specs.Sums.{add_bytes};
+ghost use Rattle.picky_kdf.specs.Pbkdf2.{key_sum, pbkdf2};
 
 use crate::hash::Pkcs12HashAlgorithm;
 use crate::mac::KeyedHashers;
 use std::alloc::{AllocError, Global};
 
 fn add_bytes(sum: &mut [u8; 64], mac: &[u8; 64])
-    ensures { sum.new ≡ added sum.old mac.now }
+    ensures { sum.new ≡ add_bytes sum.old mac.now }
 {
     for i in 0..64usize {
         sum[i] ^= mac[i];

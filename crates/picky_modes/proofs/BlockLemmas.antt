@@ -5,7 +5,7 @@ use lib.Bits.{xor_assoc}
 use Rattle.std.proofs.lemmas.Bool.{cases_lt}
 use Rattle.std.proofs.lemmas.Nat.{xor_of_8}
 use Rattle.std.proofs.lemmas.List.{drop-append-le, drop_at, get_or-append_right, get_or-drop, get_or-take, get_or_append_left, get_or_past, length-drop, length-take, take-append-le, take_all}
-use Rattle.picky_aes.specs.Cipher.{add_bytes}
+use Rattle.picky_contract.specs.Sums.{add_bytes}
 use Rattle.picky_modes.specs.Blocks.{IsBlock, IsBytes, block}
 
 -- ---- exclusive or

@@ -6,7 +6,7 @@ use Rattle.std.proofs.Math.Seq.{take-add}
 use Rattle.std.proofs.lemmas.Bool.{cases_lt}
 use Rattle.std.proofs.lemmas.Slice.{drop-put_mid, take-put_mid}
 use Rattle.std.proofs.lemmas.List.{append-nil, drop-drop, length-append, length-drop, length-take-le, nil_from_length, take-append-drop, take_all}
-use Rattle.picky_aes.specs.Cipher.{add_bytes}
+use Rattle.picky_contract.specs.Sums.{add_bytes}
 use Rattle.picky_modes.specs.Blocks.{IsBlock, IsBytes, block}
 use Rattle.picky_modes.specs.Cbc.{IsChained}
 use Rattle.picky_modes.proofs.BlockLemmas.{IsBytes-drop, IsBytes-take, block-front, block-is, block-last, length-block}

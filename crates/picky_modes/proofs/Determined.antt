@@ -3,7 +3,7 @@ use Rattle.std.proofs.Common.{◌≡◌, ℕ, zero, suc, ◌+◌, ◌*◌, ◌/�
 use Rattle.std.proofs.Math.Nat.{div-add-mod}
 use Rattle.std.proofs.Math.Seq.{take-add}
 use Rattle.std.proofs.lemmas.List.{append_assoc, length-append, length-take-le, take-append-drop, take_all}
-use Rattle.picky_aes.specs.Cipher.{add_bytes}
+use Rattle.picky_contract.specs.Sums.{add_bytes}
 use Rattle.picky_modes.specs.Blocks.{block}
 use Rattle.picky_modes.specs.Cbc.{IsCbc, IsChained, padded}
 use Rattle.picky_modes.proofs.BlockLemmas.{block-front, block-is}

@@ -3,7 +3,7 @@ use Rattle.std.proofs.Common.{◌≡◌, ℕ, zero, suc, ◌+◌, ◌-◌, ◌*�
 use Rattle.std.specs.Int.{to_be_bytes, w64}
 use Rattle.std.proofs.lemmas.Nat.{mod_below}
 use Rattle.std.proofs.lemmas.List.{drop-drop, drop_at, length-append, length-drop, length-take-le, take-append-drop, take_all, take_at}
-use Rattle.picky_aes.specs.Cipher.{add_bytes}
+use Rattle.picky_contract.specs.Sums.{add_bytes}
 use Rattle.picky_modes.specs.Blocks.{IsBlock, IsBytes, block}
 use Rattle.picky_modes.specs.KeyWrap.{register, with_register, wrap_step}
 use Rattle.picky_modes.proofs.BlockLemmas.{IsBlock-block, IsBlock-xor, IsBytes-append, IsBytes-drop, IsBytes-take, block-front, block-is, block-last, length-block, length-xor, xor_twice}

@@ -1,6 +1,6 @@
 -- Cipher block chaining (NIST SP 800-38A, 6.2) and the padding of PKCS #7 (RFC 5652, 6.3), over a block cipher e with blocks of v bytes.
 use Rattle.std.specs.Prelude.{◌≡◌, ℕ, ◌-◌, ◌*◌, ◌%◌, ◌<◌, ◌≤◌, List, ◌++◌, length, take, replicate, Option, Some, None, IfSome}
-use Rattle.picky_aes.specs.Cipher.{add_bytes}
+use Rattle.picky_contract.specs.Sums.{add_bytes}
 use Rattle.picky_modes.specs.Blocks.{IsBytes, block}
 
 -- the text and after it 1 to v bytes, each of which is their number, so that whole blocks come out

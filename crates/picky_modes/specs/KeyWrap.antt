@@ -1,7 +1,7 @@
 -- Key wrap (RFC 3394, 2.2.1) under a block cipher e with blocks of 16 bytes: a list of 8-byte registers A, R[1], .., R[n] goes through 6n steps.
 use Rattle.std.specs.Prelude.{ℕ, zero, suc, ◌+◌, ◌-◌, ◌*◌, ◌/◌, ◌%◌, List, ◌++◌, length, take, drop, replicate}
 use Rattle.std.specs.Int.{to_be_bytes, w64}
-use Rattle.picky_aes.specs.Cipher.{add_bytes}
+use Rattle.picky_contract.specs.Sums.{add_bytes}
 use Rattle.picky_modes.specs.Blocks.{block}
 
 -- the register that step t of a wrap of n registers changes: 1, .., n, six times over

@@ -1,6 +1,6 @@
 // What the modes need of a block cipher, and the exclusive or of blocks.
 ghost use Rattle.std.specs.Prelude.{◌≡◌, ◌<◌, ◌≤◌, ℕ, List, length};
-ghost use Rattle.picky_aes.specs.Cipher.{add_bytes};
+ghost use Rattle.picky_contract.specs.Sums.{add_bytes};
 ghost use Rattle.picky_modes.specs.Blocks.{IsBlock};
 
 use picky_aes::Aes;

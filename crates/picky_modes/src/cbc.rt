@@ -1,5 +1,6 @@
 // Cipher block chaining over any block cipher, and the calls under AES.
-ghost use Rattle.picky_aes.specs.Cipher.{add_bytes, cipher};
+ghost use Rattle.picky_contract.specs.Sums.{add_bytes};
+ghost use Rattle.picky_aes.specs.Cipher.{cipher};
 ghost use Rattle.std.specs.Prelude.{◌≡◌, ◌<◌, ◌≤◌, ◌+◌, ◌-◌, ◌%◌, ℕ, List, length, take, IfOk, IfSome};
 ghost use Rattle.picky_modes.specs.Blocks.{IsBlock, IsBytes};
 ghost use Rattle.picky_modes.specs.Cbc.{IsCbc, IsChained, IsDecryption, IsWholeBlocks, padded};

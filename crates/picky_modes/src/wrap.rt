@@ -1,7 +1,8 @@
 // Key wrap under AES (RFC 3394).
 ghost use Rattle.std.specs.Prelude.{◌≡◌, ◌<◌, ◌≤◌, ◌+◌, ◌-◌, ◌*◌, ◌/◌, ◌%◌, ◌^◌, ℕ, List, ◌++◌, length, IfOk, IfSome, IsSomeAnd};
 ghost use Rattle.std.specs.Int.{to_be_bytes, w64};
-ghost use Rattle.picky_aes.specs.Cipher.{add_bytes, cipher};
+ghost use Rattle.picky_contract.specs.Sums.{add_bytes};
+ghost use Rattle.picky_aes.specs.Cipher.{cipher};
 ghost use Rattle.picky_modes.specs.Blocks.{IsBlock, IsBytes, block};
 ghost use Rattle.picky_modes.specs.KeyWrap.{with_register, wrap_step, wrap_steps, wrapped_key};
 

@@ -1,5 +1,5 @@
 use Rattle.std.proofs.Common.{◌≡◌, ◌++◌, take, drop}
-use Rattle.picky_aes.specs.Cipher.{add_bytes}
+use Rattle.picky_contract.specs.Sums.{add_bytes}
 use Rattle.picky_modes.proofs.block_cipher.xor_into.Given as goal
 
 abbrev pub invariant-loop-i : goal.invariant-loop-i

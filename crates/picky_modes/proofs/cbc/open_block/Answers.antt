@@ -1,5 +1,5 @@
 use Rattle.std.proofs.Common.{◌≡◌, ◌∙◌, ap, length, sym}
-use Rattle.picky_aes.specs.Cipher.{add_bytes}
+use Rattle.picky_contract.specs.Sums.{add_bytes}
 use Rattle.picky_modes.specs.Blocks.{IsBlock}
 use Rattle.picky_modes.proofs.BlockLemmas.{IsBlock-xor, xor_twice}
 use Rattle.picky_modes.proofs.cbc.open_block.Goals as goal
