@@ -39,6 +39,10 @@ def main():
         assert answer.hex() == PUBLISHED[size]
         for count in range(1, 6):
             both_ways(f"drawn block {count} under {size} bytes", draw.randbytes(size), draw.randbytes(16))
+    remark("AES by words and AES byte by byte agree on blocks and on each one back, under drawn keys (scripts/picky_aes_cases.py).")
+    for size in (16, 24, 32):
+        for count in range(1, 6):
+            row(f"300 blocks after drawn block {count} under {size} bytes", "aes.agrees", draw.randbytes(size), draw.randbytes(16), 300, gives="true")
 
 
 if __name__ == "__main__":

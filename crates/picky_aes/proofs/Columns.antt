@@ -13,7 +13,7 @@ use Rattle.picky_aes.proofs.Linear.{interchange, product-lt, product-xor}
 abbrev pub sum4 : ℕ → ℕ → ℕ → ℕ → ℕ
 sum4 a b c d = bit_xor (bit_xor (bit_xor a b) c) d
 
-sum4-rotate : (a b c d : ℕ) → sum4 a b c d ≡ sum4 d a b c
+pub sum4-rotate : (a b c d : ℕ) → sum4 a b c d ≡ sum4 d a b c
 sum4-rotate a b c d = xor_comm _ d ∙ ap (bit_xor d) (xor_assoc a b c) ∙ sym (xor_assoc d a (bit_xor b c)) ∙ sym (xor_assoc (bit_xor d a) b c)
 
 sum4-xor : (a b c d e f g h : ℕ) → bit_xor (sum4 a b c d) (sum4 e f g h) ≡ sum4 (bit_xor a e) (bit_xor b f) (bit_xor c g) (bit_xor d h)
@@ -25,6 +25,14 @@ product-sum4 : (k a b c d : ℕ) → a < 256 → b < 256 → c < 256 → d < 256
 product-sum4 k a b c d ha hb hc hd =
     product-xor k (bit_xor (bit_xor a b) c) d (xor_of_8 _ _ (xor_of_8 _ _ ha hb) hc) hd
     ∙ ap (λ x. bit_xor x (product k d)) (product-xor k (bit_xor a b) c (xor_of_8 _ _ ha hb) hc ∙ ap (λ x. bit_xor x (product k c)) (product-xor k a b ha hb))
+
+-- the product of a column with a fixed one is linear in the column
+pub products-xor : (p0 p1 p2 p3 a b c d e f g h : ℕ) → a < 256 → b < 256 → c < 256 → d < 256 → e < 256 → f < 256 → g < 256 → h < 256
+    → bit_xor (sum4 (product p0 a) (product p1 b) (product p2 c) (product p3 d)) (sum4 (product p0 e) (product p1 f) (product p2 g) (product p3 h))
+    ≡ sum4 (product p0 (bit_xor a e)) (product p1 (bit_xor b f)) (product p2 (bit_xor c g)) (product p3 (bit_xor d h))
+products-xor p0 p1 p2 p3 a b c d e f g h ha hb hc hd he hf hg hh =
+    sum4-xor (product p0 a) (product p1 b) (product p2 c) (product p3 d) (product p0 e) (product p1 f) (product p2 g) (product p3 h)
+    ∙ sym (λ i. sum4 (product-xor p0 a e ha he i) (product-xor p1 b f hb hf i) (product-xor p2 c g hc hg i) (product-xor p3 d h hd hh i))
 
 transposed : (a b c d e f g h k l m n o p q r : ℕ)
     → sum4 (sum4 a b c d) (sum4 e f g h) (sum4 k l m n) (sum4 o p q r) ≡ sum4 (sum4 a e k o) (sum4 b f l p) (sum4 c g m q) (sum4 d h n r)

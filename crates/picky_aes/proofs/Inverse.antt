@@ -1,5 +1,5 @@
 -- Each step of the cipher_under can be undone, so a block is known by what it encrypts to.
-use Rattle.std.proofs.Common.{◌≡◌, ℕ, zero, suc, ◌+◌, ◌-◌, ◌*◌, ◌/◌, ◌%◌, ◌<◌, ◌≤◌, List, [], ◌∷◌, length, map, take, drop, get_or, slice_index, slice_range, refl, sym, ap, ◌∙◌, arith, bit_xor, inl, inr, lit<, add-one}
+use Rattle.std.proofs.Common.{◌≡◌, ℕ, zero, suc, ◌+◌, ◌-◌, ◌*◌, ◌/◌, ◌%◌, ◌<◌, ◌≤◌, List, [], ◌∷◌, length, map, drop, get_or, slice_index, refl, sym, ap, ◌∙◌, arith, bit_xor, inl, inr, lit<}
 use Rattle.std.specs.List.{range_with_len}
 use Rattle.std.specs.Int.Bits.{xor_self, xor_zero_r}
 use lib.Bits.{xor_assoc}
@@ -13,7 +13,6 @@ use Rattle.picky_aes.specs.Field.{substitute}
 use Rattle.picky_aes.specs.declared.tables.TheConstants.{INVERSE_SBOX}
 use Rattle.picky_aes.proofs.Columns.{by_places, columns_back, columns_forth}
 use Rattle.picky_aes.proofs.Linear.{product-lt}
-use Rattle.picky_aes.proofs.Round.{round_key-next}
 use Rattle.picky_aes.proofs.Table.{substitute-INVERSE_SBOX, substitute-lt}
 
 xor_twice : (x y : ℕ) → bit_xor (bit_xor x y) y ≡ x
@@ -45,7 +44,7 @@ IsBlock-add s k hs hk =
       bytes = λ i. rw (get_or-add_bytes s k i e) (xor_of_8 _ _ (hs.bytes i) (hk.bytes i));
     }
 
-IsBlock-from : (f : ℕ → ℕ) → ((i : ℕ) → f i < 256) → IsBlock (map f (range_with_len 0 16))
+pub IsBlock-from : (f : ℕ → ℕ) → ((i : ℕ) → f i < 256) → IsBlock (map f (range_with_len 0 16))
 IsBlock-from f h = record {
   size = length-map-range_with_len f 0 16;
   bytes = λ i. elim (cases_lt i 16) [
@@ -156,27 +155,26 @@ cipher-alone w s t n h hs ht e =
     rounds-alone w s t n n h (omega arith) hs ht (sub-alone _ _ bs bt (shift-alone _ _ ss st e1))
 
 -- ---- decryption, step by step: y is the block to decrypt
-pub cipher-back : (w y a b t : List ℕ) (n : ℕ) → HasKeys w n → length y ≡ 16 → a ≡ add_bytes y (slice_range w (16 * n + 16) (16 * n + 32))
-    → shift_rows b ≡ a → sub_bytes t ≡ b → (x : List ℕ) → rounds w x n ≡ t → cipher_under w n x ≡ y
+pub cipher-back : (w y a : List ℕ) (n : ℕ) → HasKeys w n → length y ≡ 16 → a ≡ add_bytes y (round_key w (n + 1))
+    → (x : List ℕ) → shift_rows (sub_bytes (rounds w x n)) ≡ a → cipher_under w n x ≡ y
 unfolding cipher_under
-cipher-back w y a b t n h l ea eb et x ex =
+cipher-back w y a n h l ea x ex =
     let k : IsBlock (round_key w (n + 1)) = IsBlock-round_key w n (n + 1) h (omega arith) in
-    let key : slice_range w (16 * n + 16) (16 * n + 32) ≡ round_key w (n + 1) = round_key-next w n ∙ rw add-one refl in
-    rw (ex, et, eb, ea, key) (add_bytes_twice y (round_key w (n + 1)) (l ∙ sym k.size))
+    ap (λ z. add_bytes z (round_key w (n + 1))) (ex ∙ ea) ∙ add_bytes_twice y (round_key w (n + 1)) (l ∙ sym k.size)
 
-pub round-back : (w s a b d t : List ℕ) (n r : ℕ) → HasKeys w n → r < n → IsBlock a → length s ≡ 16 → a ≡ add_bytes s (slice_range w (16 * r + 16) (16 * r + 32))
-    → b ≡ times_columns (14 ∷ 9 ∷ 13 ∷ 11 ∷ []) a → shift_rows d ≡ b → sub_bytes t ≡ d
-    → (x : List ℕ) → rounds w x r ≡ t → rounds w x (suc r) ≡ s
+-- s is u after SubBytes and ShiftRows, and m the state before it at the same place of the round before
+pub round-back : (w s u m : List ℕ) (n r : ℕ) → HasKeys w n → r < n → IsBlock u → shift_rows (sub_bytes u) ≡ s
+    → m ≡ times_columns (14 ∷ 9 ∷ 13 ∷ 11 ∷ []) (add_bytes u (round_key w (suc r)))
+    → (x : List ℕ) → shift_rows (sub_bytes (rounds w x r)) ≡ m → shift_rows (sub_bytes (rounds w x (suc r))) ≡ s
 unfolding rounds
-round-back w s a b d t n r h lt ba l ea eb ed et x ex =
+round-back w s u m n r h lt bu es em x ex =
     let k : IsBlock (round_key w (suc r)) = IsBlock-round_key w n (suc r) h (omega arith) in
-    let mixed : mix_columns (shift_rows (sub_bytes (rounds w x r))) ≡ a =
-    ap (λ z. mix_columns (shift_rows (sub_bytes z))) ex ∙ ap (λ z. mix_columns (shift_rows z)) et ∙ ap mix_columns (ed ∙ eb) ∙ columns_back a ba in
-    ap (λ z. add_bytes z (round_key w (suc r))) (mixed ∙ ea ∙ ap (add_bytes s) (round_key-next w r))
-    ∙ add_bytes_twice s (round_key w (suc r)) (l ∙ sym k.size)
+    let mixed : mix_columns (shift_rows (sub_bytes (rounds w x r))) ≡ add_bytes u (round_key w (suc r)) =
+    ap mix_columns (ex ∙ em) ∙ columns_back (add_bytes u (round_key w (suc r))) (IsBlock-add u (round_key w (suc r)) bu k) in
+    ap (λ z. shift_rows (sub_bytes z)) (ap (λ z. add_bytes z (round_key w (suc r))) mixed ∙ add_bytes_twice u (round_key w (suc r)) (bu.size ∙ sym k.size)) ∙ es
 
-pub first-back : (w s t : List ℕ) (n : ℕ) → HasKeys w n → length s ≡ 16 → t ≡ add_bytes s (take 16 w) → rounds w t 0 ≡ s
+pub first-back : (w s u t : List ℕ) (n : ℕ) → HasKeys w n → IsBlock u → shift_rows (sub_bytes u) ≡ s → t ≡ add_bytes u (round_key w 0) → shift_rows (sub_bytes (rounds w t 0)) ≡ s
 unfolding rounds
-first-back w s t n h l e =
+first-back w s u t n h bu es et =
     let k : IsBlock (round_key w 0) = IsBlock-round_key w n 0 h (omega arith) in
-    rw e (add_bytes_twice s (round_key w 0) (l ∙ sym k.size))
+    ap (λ z. shift_rows (sub_bytes z)) (ap (λ z. add_bytes z (round_key w 0)) et ∙ add_bytes_twice u (round_key w 0) (bu.size ∙ sym k.size)) ∙ es

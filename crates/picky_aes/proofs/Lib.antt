@@ -4,4 +4,7 @@ pub mod Linear
 pub mod Columns
 pub mod Inverse
 pub mod Schedule
+pub mod WordBytes
+pub mod WordRound
+pub mod WordBack
 pub mod Front

@@ -36,7 +36,7 @@ word-front w k j h =
     ∙ ap (take (4 * j + 4 - 4 * j)) (drop-take (4 * j) (k - 4 * j) w)
     ∙ take-take (4 * j + 4 - 4 * j) (k - 4 * j) (drop (4 * j) w) (omega arith)
 
-by_four : (t : List ℕ) → length t ≡ 4 → slice_index t 0 ∷ slice_index t 1 ∷ slice_index t 2 ∷ slice_index t 3 ∷ [] ≡ t
+pub by_four : (t : List ℕ) → length t ≡ 4 → slice_index t 0 ∷ slice_index t 1 ∷ slice_index t 2 ∷ slice_index t 3 ∷ [] ≡ t
 by_four t h = sym (fill_by_all (slice_index t) t 4 0 h (λ k l. refl))
 
 -- one more word in the front of an array

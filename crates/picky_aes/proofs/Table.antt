@@ -1,8 +1,7 @@
 -- What holds of each byte, by computing.
-use Rattle.std.proofs.Common.{◌≡◌, ℕ, ◌<◌, ◌≤◌, true, false, nat_eq, nat_lt, if◌then◌else◌, arith, slice_index, refl, bit_xor, ◌*◌, ◌%◌}
+use Rattle.std.proofs.Common.{◌≡◌, ℕ, ◌<◌, true, nat_eq, nat_lt, slice_index, refl, sym, ap, subst, ◌∙◌}
 use Rattle.std.proofs.lemmas.Bool.{agree_below, agree_below_at, eqb-true, ltb-true}
-use Rattle.std.proofs.lemmas.Bool.Decides.{nat_tests}
-use Rattle.picky_aes.specs.Field.{inverse, product, substitute, times_x}
+use Rattle.picky_aes.specs.Field.{inverse, substitute}
 use Rattle.picky_aes.specs.declared.tables.TheConstants.{INVERSE_SBOX, SBOX}
 
 -- two functions that agree on all bytes
@@ -13,51 +12,24 @@ pub SBOX-substitute : (b : ℕ) → b < 256 → slice_index SBOX b ≡ substitut
 unfolding substitute inverse
 SBOX-substitute = at_bytes (λ b. slice_index SBOX b) substitute refl
 
--- what the code computes from 128 on, where the term x ^ 7 is shifted out
-shifted : (b : ℕ) → b < 256 → (if nat_lt b 128 then times_x b else bit_xor (b * 2 % 256) 27) ≡ times_x b
-shifted = at_bytes (λ b. (if nat_lt b 128 then times_x b else bit_xor (b * 2 % 256) 27)) times_x refl
+-- the entries of the tables alone: from here on the S-box of the definition isn't computed again
+SBOX-lt : (b : ℕ) → b < 256 → slice_index SBOX b < 256
+SBOX-lt b h = ltb-true _ _ (agree_below_at (λ b. nat_lt (slice_index SBOX b) 256) (λ b. true) 256 b refl h)
 
-pub times_x-shifted : (b : ℕ) → b < 256 → 128 ≤ b → bit_xor (b * 2 % 256) 27 ≡ times_x b
-times_x-shifted b h l = let t : nat_lt b 128 ≡ false = grind (arith, nat_tests) in
-    let e = shifted b h in
-    rw t (rw t at e)
+pub INVERSE_SBOX-lt : (b : ℕ) → b < 256 → slice_index INVERSE_SBOX b < 256
+INVERSE_SBOX-lt b h = ltb-true _ _ (agree_below_at (λ b. nat_lt (slice_index INVERSE_SBOX b) 256) (λ b. true) 256 b refl h)
 
-pub product-1 : (b : ℕ) → b < 256 → product 1 b ≡ b
-unfolding product
-product-1 = at_bytes (product 1) (λ b. b) refl
+SBOX-INVERSE_SBOX : (b : ℕ) → b < 256 → slice_index SBOX (slice_index INVERSE_SBOX b) ≡ b
+SBOX-INVERSE_SBOX = at_bytes (λ b. slice_index SBOX (slice_index INVERSE_SBOX b)) (λ b. b) refl
 
-pub product-2 : (b : ℕ) → b < 256 → product 2 b ≡ times_x b
-unfolding product
-product-2 = at_bytes (product 2) times_x refl
-
-pub product-3 : (b : ℕ) → b < 256 → product 3 b ≡ bit_xor (times_x b) b
-unfolding product
-product-3 = at_bytes (product 3) (λ b. bit_xor (times_x b) b) refl
+INVERSE_SBOX-SBOX : (b : ℕ) → b < 256 → slice_index INVERSE_SBOX (slice_index SBOX b) ≡ b
+INVERSE_SBOX-SBOX = at_bytes (λ b. slice_index INVERSE_SBOX (slice_index SBOX b)) (λ b. b) refl
 
 pub INVERSE_SBOX-substitute : (b : ℕ) → b < 256 → substitute (slice_index INVERSE_SBOX b) ≡ b
-unfolding substitute inverse
-INVERSE_SBOX-substitute = at_bytes (λ b. substitute (slice_index INVERSE_SBOX b)) (λ b. b) refl
+INVERSE_SBOX-substitute b h = sym (SBOX-substitute (slice_index INVERSE_SBOX b) (INVERSE_SBOX-lt b h)) ∙ SBOX-INVERSE_SBOX b h
 
 pub substitute-INVERSE_SBOX : (b : ℕ) → b < 256 → slice_index INVERSE_SBOX (substitute b) ≡ b
-unfolding substitute inverse
-substitute-INVERSE_SBOX = at_bytes (λ b. slice_index INVERSE_SBOX (substitute b)) (λ b. b) refl
+substitute-INVERSE_SBOX b h = ap (slice_index INVERSE_SBOX) (sym (SBOX-substitute b h)) ∙ INVERSE_SBOX-SBOX b h
 
 pub substitute-lt : (b : ℕ) → b < 256 → substitute b < 256
-unfolding substitute inverse
-substitute-lt b h = ltb-true _ _ (agree_below_at (λ b. nat_lt (substitute b) 256) (λ b. true) 256 b refl h)
-
-pub product-9 : (b : ℕ) → b < 256 → product 9 b ≡ bit_xor (times_x (times_x (times_x b))) b
-unfolding product
-product-9 = at_bytes (product 9) (λ b. bit_xor (times_x (times_x (times_x b))) b) refl
-
-pub product-11 : (b : ℕ) → b < 256 → product 11 b ≡ bit_xor (bit_xor (times_x (times_x (times_x b))) (times_x b)) b
-unfolding product
-product-11 = at_bytes (product 11) (λ b. bit_xor (bit_xor (times_x (times_x (times_x b))) (times_x b)) b) refl
-
-pub product-13 : (b : ℕ) → b < 256 → product 13 b ≡ bit_xor (bit_xor (times_x (times_x (times_x b))) (times_x (times_x b))) b
-unfolding product
-product-13 = at_bytes (product 13) (λ b. bit_xor (bit_xor (times_x (times_x (times_x b))) (times_x (times_x b))) b) refl
-
-pub product-14 : (b : ℕ) → b < 256 → product 14 b ≡ bit_xor (bit_xor (times_x (times_x (times_x b))) (times_x (times_x b))) (times_x b)
-unfolding product
-product-14 = at_bytes (product 14) (λ b. bit_xor (bit_xor (times_x (times_x (times_x b))) (times_x (times_x b))) (times_x b)) refl
+substitute-lt b h = subst (λ s. s < 256) (SBOX-substitute b h) (SBOX-lt b h)

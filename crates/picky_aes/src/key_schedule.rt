@@ -3,8 +3,11 @@ ghost use Rattle.std.specs.Prelude.{◌≡◌, ◌<◌, ◌≤◌, ◌+◌, ◌*
 ghost use Rattle.picky_contract.specs.Sums.{add_bytes};
 ghost use Rattle.picky_aes.specs.Cipher.{key_step, schedule, word_at};
 ghost use Rattle.picky_aes.specs.Expanded.{IsWordCount};
+ghost use Rattle.picky_aes.specs.Words.{IsUnmixed, bytes_of};
 
 use crate::steps::substituted;
+use crate::undo::unmixed_column;
+use crate::words::joined;
 
 // x^0, .., x^9, the first bytes of the round constants.
 const POWERS: [u8; 10] = [0x01, 0x02, 0x04, 0x08, 0x10, 0x20, 0x40, 0x80, 0x1b, 0x36];
@@ -71,4 +74,27 @@ pub(crate) fn schedule(key: &[u8], words: usize) -> [u8; 240]
         keys[4 * i..4 * i + 4].copy_from_slice(&word);
     }
     keys
+}
+
+// The words of an expanded key.
+pub(crate) fn key_words(keys: &[u8; 240]) -> [u32; 60]
+    ensures { bytes_of result ≡ keys.now }
+{
+    let mut words = [0; 60];
+    for i in 0..60 {
+        let [a, b, c, d] = word_at(keys, i);
+        words[i] = joined(a, b, c, d);
+    }
+    words
+}
+
+// The words of a key schedule after InvMixColumns (FIPS 197, 5.3.5).
+pub(crate) fn unmixed_words(keys: &[u32; 60]) -> [u32; 60]
+    ensures { IsUnmixed keys.now result }
+{
+    let mut words = [0; 60];
+    for i in 0..60usize {
+        words[i] = unmixed_column(keys[i]);
+    }
+    words
 }

@@ -1,81 +1,64 @@
-// The steps that undo those of a round (FIPS 197, 5.3). Each says what the forward step makes of its result.
-ghost use Rattle.std.specs.Prelude.{◌≡◌, [], ◌∷◌, map};
-ghost use Rattle.picky_aes.specs.Cipher.{IsBlock, column_product, shift_rows, sub_bytes, times_columns};
-ghost use Rattle.picky_aes.specs.Field.{product, substitute};
+// The steps that undo those of a round (FIPS 197, 5.3), one column of a word at a time.
+ghost use Rattle.std.specs.Prelude.{◌≡◌, [], ◌∷◌, map, slice_index};
+ghost use Rattle.std.specs.Int.{byte_at, to_be_bytes, w32, w64};
+ghost use Rattle.picky_contract.specs.Sums.{add_bytes};
+ghost use Rattle.picky_aes.specs.Cipher.{column_product};
+ghost use Rattle.picky_aes.specs.Field.{product};
 
-use crate::steps::times_x;
-use crate::tables::INVERSE_SBOX;
+use crate::steps::substituted;
+use crate::tables::{INVERSE_SBOX, UNROUND};
+use crate::words::{joined, low_word};
 
-fn times_9(byte: u8) -> u8
-    ensures { result ≡ product 9 byte }
-{
-    times_x(times_x(times_x(byte))) ^ byte
-}
-
-fn times_11(byte: u8) -> u8
-    ensures { result ≡ product 11 byte }
-{
-    times_x(times_x(times_x(byte))) ^ times_x(byte) ^ byte
-}
-
-fn times_13(byte: u8) -> u8
-    ensures { result ≡ product 13 byte }
-{
-    times_x(times_x(times_x(byte))) ^ times_x(times_x(byte)) ^ byte
-}
-
-fn times_14(byte: u8) -> u8
-    ensures { result ≡ product 14 byte }
-{
-    times_x(times_x(times_x(byte))) ^ times_x(times_x(byte)) ^ times_x(byte)
-}
-
-fn unmix_column(a: u8, b: u8, c: u8, d: u8) -> [u8; 4]
-    ensures { result ≡ map (column_product (14 ∷ 9 ∷ 13 ∷ 11 ∷ []) (a ∷ b ∷ c ∷ d ∷ []) 0) (0 ∷ 1 ∷ 2 ∷ 3 ∷ []) }
-{
-    [
-        times_14(a) ^ times_9(d) ^ times_13(c) ^ times_11(b),
-        times_14(b) ^ times_9(a) ^ times_13(d) ^ times_11(c),
-        times_14(c) ^ times_9(b) ^ times_13(a) ^ times_11(d),
-        times_14(d) ^ times_9(c) ^ times_13(b) ^ times_11(a),
-    ]
-}
-
-// Each column times {0b} x^3 + {0d} x^2 + {09} x + {0e}, the inverse of the forward step's polynomial.
-pub(crate) fn unmix_columns(state: &mut [u8; 16])
-    ensures { state.new ≡ times_columns (14 ∷ 9 ∷ 13 ∷ 11 ∷ []) state.old }
-{
-    let s = *state;
-    let [a0, a1, a2, a3] = unmix_column(s[0], s[1], s[2], s[3]);
-    let [b0, b1, b2, b3] = unmix_column(s[4], s[5], s[6], s[7]);
-    let [c0, c1, c2, c3] = unmix_column(s[8], s[9], s[10], s[11]);
-    let [d0, d1, d2, d3] = unmix_column(s[12], s[13], s[14], s[15]);
-    *state = [
-        a0, a1, a2, a3, b0, b1, b2, b3, c0, c1, c2, c3, d0, d1, d2, d3,
-    ];
-}
-
-pub(crate) fn unshift_rows(state: &mut [u8; 16])
-    ensures { shift_rows state.new ≡ state.old }
-{
-    let s = *state;
-    *state = [
-        s[0], s[13], s[10], s[7], s[4], s[1], s[14], s[11], s[8], s[5], s[2], s[15], s[12], s[9],
-        s[6], s[3],
-    ];
-}
-
+// The inverse S-box at one byte.
 fn unsubstituted(byte: u8) -> u8
-    ensures { substitute result ≡ byte }
+    ensures { result ≡ slice_index INVERSE_SBOX byte }
 {
     INVERSE_SBOX[byte as usize]
 }
 
-pub(crate) fn unsub_bytes(state: &mut [u8; 16])
-    ensures value { sub_bytes state.new ≡ state.old }
-    ensures block { IsBlock state.new }
+// What a byte adds to its column in InvMixColumns after InvSubBytes, twice over.
+fn unmixed_byte(byte: u8) -> u64
+    ensures { to_be_bytes w64 result ≡ map (λ p. product p (slice_index INVERSE_SBOX byte)) (14 ∷ 9 ∷ 13 ∷ 11 ∷ 14 ∷ 9 ∷ 13 ∷ 11 ∷ []) }
 {
-    for i in 0..16 {
-        state[i] = unsubstituted(state[i]);
-    }
+    UNROUND[byte as usize]
+}
+
+// One column before a full round, from the columns that its bytes went to; `key` is the round key's column after InvMixColumns.
+pub(crate) fn unround_column(a: u32, b: u32, c: u32, d: u32, key: u32) -> u32
+    ensures { to_be_bytes w32 result
+        ≡ add_bytes (map (column_product (14 ∷ 9 ∷ 13 ∷ 11 ∷ []) (slice_index INVERSE_SBOX (byte_at 3 a) ∷ slice_index INVERSE_SBOX (byte_at 2 b) ∷ slice_index INVERSE_SBOX (byte_at 1 c) ∷ slice_index INVERSE_SBOX (byte_at 0 d) ∷ []) 0) (0 ∷ 1 ∷ 2 ∷ 3 ∷ []))
+        (to_be_bytes w32 key) }
+{
+    low_word(unmixed_byte((a >> 24) as u8))
+        ^ low_word(unmixed_byte((d % 256) as u8) >> 24)
+        ^ low_word(unmixed_byte(((c >> 8) % 256) as u8) >> 16)
+        ^ low_word(unmixed_byte(((b >> 16) % 256) as u8) >> 8)
+        ^ key
+}
+
+// One column of the first state, which no MixColumns came before.
+pub(crate) fn first_column(a: u32, b: u32, c: u32, d: u32, key: u32) -> u32
+    ensures { to_be_bytes w32 result
+        ≡ add_bytes (slice_index INVERSE_SBOX (byte_at 3 a) ∷ slice_index INVERSE_SBOX (byte_at 2 b) ∷ slice_index INVERSE_SBOX (byte_at 1 c) ∷ slice_index INVERSE_SBOX (byte_at 0 d) ∷ []) (to_be_bytes w32 key) }
+{
+    joined(
+        unsubstituted((a >> 24) as u8),
+        unsubstituted(((b >> 16) % 256) as u8),
+        unsubstituted(((c >> 8) % 256) as u8),
+        unsubstituted((d % 256) as u8),
+    ) ^ key
+}
+
+// InvMixColumns on one column. The S-box makes up for its inverse in the table.
+pub(crate) fn unmixed_column(column: u32) -> u32
+    ensures { to_be_bytes w32 result ≡ map (column_product (14 ∷ 9 ∷ 13 ∷ 11 ∷ []) (to_be_bytes w32 column) 0) (0 ∷ 1 ∷ 2 ∷ 3 ∷ []) }
+{
+    let [a, b, c, d] = column.to_be_bytes();
+    let word = joined(
+        substituted(a),
+        substituted(b),
+        substituted(c),
+        substituted(d),
+    );
+    unround_column(word, word, word, word, 0)
 }
