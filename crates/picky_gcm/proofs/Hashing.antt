@@ -1,13 +1,12 @@
 -- The blocks of padded bytes, and their hash one block after another.
-use Rattle.std.proofs.Common.{◌≡◌, ℕ, ◌+◌, ◌-◌, ◌*◌, ◌/◌, ◌%◌, ◌<◌, ◌≤◌, Bool, List, [], ◌∷◌, ◌++◌, length, map, take, drop, replicate, slice_range, min, refl, sym, ap, ◌∙◌, arith, bit_xor, inl, inr}
+use Rattle.std.proofs.Common.{◌≡◌, ℕ, ◌+◌, ◌-◌, ◌*◌, ◌/◌, ◌%◌, ◌<◌, ◌≤◌, Bool, List, [], ◌∷◌, ◌++◌, length, map, take, drop, replicate, slice_range, min, refl, sym, ap, ◌∙◌, arith, inl, inr}
 use Rattle.std.specs.List.{range_with_len}
 use Rattle.std.specs.Int.{div_ceil}
 use Rattle.std.proofs.lemmas.Bool.{cases_lt}
 use Rattle.std.proofs.lemmas.List.{append-nil, drop-append-le, drop-replicate, length-append, length-drop, length-replicate, take-append-le, take_all}
 use Rattle.std.proofs.lemmas.List.FromFn.{map-range_with_len_more}
 use Rattle.picky_gcm.specs.Hash.{Ghash, Ghash_from, blocks, hash_of, lengths, padded}
-use Rattle.picky_gcm.specs.Polynomial.{Mul, block_of, bytes_of, coefficients, plus, zeros}
-use Rattle.picky_gcm.proofs.Numbers.{coefficients-xor, zero-coefficients}
+use Rattle.picky_gcm.specs.Polynomial.{Mul, block_of, bytes_of, plus, zeros}
 
 -- ---- padding
 front-padded : (d : List ℕ) (z n : ℕ) → n ≡ min (length d) 16 → (length d < 16 → z ≡ 16 - length d)
@@ -64,37 +63,33 @@ Ghash-none h = refl
 pub Ghash-more : (h : List Bool) (xs : List (List Bool)) (x : List Bool) → Ghash h (xs ++ x ∷ []) ≡ Mul (plus (Ghash h xs) x) h
 Ghash-more h xs x = Ghash_from-append h (zeros 128) xs (x ∷ []) ∙ Ghash_from-one h (Ghash h xs) x
 
--- the hash y and the block x added and multiplied by the key
-pub hashed-more : (h y : List Bool) (bytes : List ℕ) (k z x w : ℕ) → coefficients 128 z ≡ Ghash_from h y (map (block_at bytes) (range_with_len 0 k))
-    → coefficients 128 x ≡ block_at bytes k → coefficients 128 w ≡ Mul (coefficients 128 (bit_xor z x)) h
-    → coefficients 128 w ≡ Ghash_from h y (map (block_at bytes) (range_with_len 0 (k + 1)))
-hashed-more h y bytes k z x w ez ex ew =
+-- z is the hash so far, x the next block, s their sum, w the product of that and the key
+pub hashed-more : (h y : List Bool) (bytes : List ℕ) (k : ℕ) (z x s w : List Bool) → z ≡ Ghash_from h y (map (block_at bytes) (range_with_len 0 k))
+    → x ≡ block_at bytes k → s ≡ plus z x → w ≡ Mul s h → w ≡ Ghash_from h y (map (block_at bytes) (range_with_len 0 (k + 1)))
+hashed-more h y bytes k z x s w ez ex es ew =
     ew
-    ∙ ap (λ c. Mul c h) (coefficients-xor 128 z x ∙ (λ i. plus (ez i) (ex i)))
+    ∙ ap (λ c. Mul c h) (es ∙ (λ i. plus (ez i) (ex i)))
     ∙ sym (Ghash_from-one h (Ghash_from h y (map (block_at bytes) (range_with_len 0 k))) (block_at bytes k))
     ∙ sym (Ghash_from-append h y (map (block_at bytes) (range_with_len 0 k)) (block_at bytes k ∷ []))
     ∙ ap (Ghash_from h y) (sym (map-range_with_len_more (block_at bytes) 0 k k (omega arith)))
 
-pub hashed-all : (h y : List Bool) (bytes : List ℕ) (k z : ℕ) → k ≡ div_ceil (length bytes) 16
-    → coefficients 128 z ≡ Ghash_from h y (map (block_at bytes) (range_with_len 0 k)) → coefficients 128 z ≡ Ghash_from h y (blocks (padded bytes))
+pub hashed-all : (h y : List Bool) (bytes : List ℕ) (k : ℕ) (z : List Bool) → k ≡ div_ceil (length bytes) 16
+    → z ≡ Ghash_from h y (map (block_at bytes) (range_with_len 0 k)) → z ≡ Ghash_from h y (blocks (padded bytes))
 hashed-all h y bytes k z ek ez =
     ez ∙ ap (λ n. Ghash_from h y (map (block_at bytes) (range_with_len 0 n))) (ek ∙ sym (count-padded bytes))
 
--- the whole hash: of additional data a, on to the text b, and on to the lengths
-pub hash-is : (key aad text bytes : List ℕ) (k a b l w : ℕ) → coefficients 128 k ≡ block_of key
-    → coefficients 128 a ≡ Ghash_from (coefficients 128 k) (coefficients 128 0) (blocks (padded aad))
-    → coefficients 128 b ≡ Ghash_from (coefficients 128 k) (coefficients 128 a) (blocks (padded text))
-    → coefficients 128 l ≡ block_of (lengths aad text)
-    → coefficients 128 w ≡ Mul (coefficients 128 (bit_xor b l)) (coefficients 128 k)
-    → bytes ≡ bytes_of (coefficients 128 w) → bytes ≡ hash_of key aad text
+-- the whole hash: a of the additional data, b on to the text, w on to the lengths, with s the sum of b and those
+pub hash-is : (key aad text bytes : List ℕ) (z a b s w : List Bool) → z ≡ zeros 128
+    → a ≡ Ghash_from (block_of key) z (blocks (padded aad)) → b ≡ Ghash_from (block_of key) a (blocks (padded text))
+    → s ≡ plus b (block_of (lengths aad text)) → w ≡ Mul s (block_of key) → bytes ≡ bytes_of w → bytes ≡ hash_of key aad text
 unfolding hash_of
-hash-is key aad text bytes k a b l w ek ea eb el ew e =
+hash-is key aad text bytes z a b s w ez ea eb es ew e =
     let h : List Bool = block_of key in
     let ends : List (List Bool) = block_of (lengths aad text) ∷ [] in
-    let first : coefficients 128 a ≡ Ghash h (blocks (padded aad)) = ea ∙ (λ i. Ghash_from (ek i) (zero-coefficients i) (blocks (padded aad))) in
-    let second : coefficients 128 b ≡ Ghash_from h (Ghash h (blocks (padded aad))) (blocks (padded text)) = eb ∙ (λ i. Ghash_from (ek i) (first i) (blocks (padded text))) in
-    let last : coefficients 128 w ≡ Mul (plus (Ghash_from h (Ghash h (blocks (padded aad))) (blocks (padded text))) (block_of (lengths aad text))) h =
-    ew ∙ (λ i. Mul (coefficients-xor 128 b l i) (ek i)) ∙ (λ i. Mul (plus (second i) (el i)) h) in
+    let first : a ≡ Ghash h (blocks (padded aad)) = ea ∙ ap (λ z. Ghash_from h z (blocks (padded aad))) ez in
+    let second : b ≡ Ghash_from h (Ghash h (blocks (padded aad))) (blocks (padded text)) = eb ∙ ap (λ a. Ghash_from h a (blocks (padded text))) first in
+    let last : w ≡ Mul (plus (Ghash_from h (Ghash h (blocks (padded aad))) (blocks (padded text))) (block_of (lengths aad text))) h =
+    ew ∙ ap (λ c. Mul c h) (es ∙ ap (λ b. plus b (block_of (lengths aad text))) second) in
     e ∙ ap bytes_of (last
     ∙ sym (Ghash_from-one h (Ghash_from h (Ghash h (blocks (padded aad))) (blocks (padded text))) (block_of (lengths aad text)))
     ∙ sym (Ghash_from-append h (Ghash h (blocks (padded aad))) (blocks (padded text)) ends)

@@ -1,12 +1,14 @@
 -- The coefficients of a number.
-use Rattle.std.proofs.Common.{◌≡◌, ℕ, zero, suc, ◌+◌, ◌-◌, ◌/◌, ◌%◌, ◌^◌, ◌<◌, Bool, true, false, List, [], ◌∷◌, length, get_or, take, drop, lit<, refl, sym, ap, ◌∙◌, arith, bit_xor, inl, inr}
+use Rattle.std.proofs.Common.{◌≡◌, ℕ, zero, suc, ◌+◌, ◌-◌, ◌*◌, ◌/◌, ◌%◌, ◌^◌, ◌<◌, false, ◌∷◌, length, get_or, take, lit<, refl, sym, ap, ◌∙◌, arith, bit_xor, inl, inr}
 use Rattle.std.specs.Prelude.{◌==◌}
 use Rattle.std.specs.Int.{bit_at}
+use Rattle.std.specs.Int.Bits.{xor_zero_r}
 use Rattle.std.proofs.lemmas.Bool.{cases_lt}
 use Rattle.std.proofs.lemmas.Nat.Bits.{bit_at-lt, bit_at-suc, bit_at_above, bit_at_lowest, bit_at_xor}
-use Rattle.std.proofs.lemmas.List.{drop_all, drop_more}
-use Rattle.picky_gcm.specs.Polynomial.{Mul, coefficients, odd, plus, scale, tail, times_x, zeros}
-use Rattle.picky_gcm.proofs.Walk.{Mul-walk, length-tail, length-walk, plus-zeros, plus-zeros_right, plus_assoc, scale_false, scale_true, walk}
+use Rattle.std.proofs.lemmas.Nat.{xor_lt}
+use Rattle.picky_gcm.specs.Polynomial.{coefficients, odd, plus, scale, tail, times_x, zeros}
+use Rattle.picky_gcm.specs.Table.{times_x4}
+use Rattle.picky_gcm.proofs.Walk.{length-tail, plus-zeros_right, scale_false, scale_true}
 
 odd_bits : (p q : ℕ) → p < 2 → q < 2 → ((p + q) % 2 == 1) ≡ odd (p == 1) (q == 1)
 odd_bits p q hp hq = elim (cases_lt p 1) [
@@ -72,50 +74,52 @@ times_x-odd x h e =
     ∙ (λ i. plus (coefficients-half 127 x h i) (tail-coefficients i))
     ∙ ap (plus (false ∷ take 127 (coefficients 128 x))) (sym (scale_true tail) ∙ ap (λ b. scale b tail) (sym (last_coefficient x 1 e)))
 
--- ---- one step of the multiplication
-next : (x z v : List Bool) (i : ℕ) → i < length x
-    → plus (plus z (scale (get_or x i false) v)) (walk (drop (i + 1) x) (times_x v)) ≡ plus z (walk (drop i x) v)
-unfolding walk
-next x z v i h =
-    plus_assoc z (scale (get_or x i false) v) (walk (drop (i + 1) x) (times_x v))
-    ∙ ap (plus z) (sym (ap (λ p. walk p v) (drop_more x i false h)))
-
-bit_of : (x i : ℕ) → i < 128 → get_or (coefficients 128 x) i false ≡ (bit_at x (127 - i) == 1)
-bit_of x i h = get-coefficients 128 x i h ∙ ap (λ k. bit_at x k == 1) (omega arith)
-
-pub step-set : (x z v w i : ℕ) → i < 128 → bit_at x (127 - i) ≡ 1 → coefficients 128 w ≡ times_x (coefficients 128 v)
-    → plus (coefficients 128 (bit_xor z v)) (walk (drop (i + 1) (coefficients 128 x)) (coefficients 128 w))
-    ≡ plus (coefficients 128 z) (walk (drop i (coefficients 128 x)) (coefficients 128 v))
-step-set x z v w i h b e =
-    let t : get_or (coefficients 128 x) i false ≡ true = bit_of x i h ∙ ap (λ k. k == 1) b in
-    (λ j. plus (coefficients-xor 128 z v j) (walk (drop (i + 1) (coefficients 128 x)) (e j)))
-    ∙ ap (λ p. plus (plus (coefficients 128 z) p) (walk (drop (i + 1) (coefficients 128 x)) (times_x (coefficients 128 v)))) (sym (scale_true (coefficients 128 v)) ∙ ap (λ b. scale b (coefficients 128 v)) (sym t))
-    ∙ next (coefficients 128 x) (coefficients 128 z) (coefficients 128 v) i (omega (arith, length-coefficients 128 x))
-
-pub step-clear : (x z v w i : ℕ) → i < 128 → bit_at x (127 - i) ≡ 0 → coefficients 128 w ≡ times_x (coefficients 128 v)
-    → plus (coefficients 128 z) (walk (drop (i + 1) (coefficients 128 x)) (coefficients 128 w))
-    ≡ plus (coefficients 128 z) (walk (drop i (coefficients 128 x)) (coefficients 128 v))
-step-clear x z v w i h b e =
-    let t : get_or (coefficients 128 x) i false ≡ false = bit_of x i h ∙ ap (λ k. k == 1) b in
-    let same : plus (coefficients 128 z) (zeros 128) ≡ coefficients 128 z = plus-zeros_right 128 (coefficients 128 z) (omega (arith, length-coefficients 128 z)) in
-    ap (λ w. plus (coefficients 128 z) (walk (drop (i + 1) (coefficients 128 x)) w)) e
-    ∙ ap (λ y. plus y (walk (drop (i + 1) (coefficients 128 x)) (times_x (coefficients 128 v))))
-    (sym same ∙ ap (plus (coefficients 128 z)) (ap zeros (sym (length-coefficients 128 v)) ∙ sym (scale_false (coefficients 128 v)) ∙ ap (λ b. scale b (coefficients 128 v)) (sym t)))
-    ∙ next (coefficients 128 x) (coefficients 128 z) (coefficients 128 v) i (omega (arith, length-coefficients 128 x))
-
--- the loop's begin and end
+-- ---- zero
 pub zero-coefficients : coefficients 128 0 ≡ zeros 128
 unfolding coefficients zeros
 zero-coefficients = refl
 
-pub walk-zero : (p v : List Bool) → length v ≡ 128 → plus (coefficients 128 0) (walk p v) ≡ walk p v
-walk-zero p v h = ap (λ z. plus z (walk p v)) zero-coefficients ∙ plus-zeros 128 (walk p v) (omega (arith, length-walk p v h))
+-- ---- x times a block as a number
+abbrev pub halved : ℕ → ℕ
+halved n = bit_xor (n / 2) (n % 2 * 0xe1000000000000000000000000000000)
 
-pub product-done : (x h z v i : ℕ) → i ≡ 128 → plus (coefficients 128 z) (walk (drop i (coefficients 128 x)) (coefficients 128 v)) ≡ walk (coefficients 128 x) (coefficients 128 h)
-    → coefficients 128 z ≡ Mul (coefficients 128 x) (coefficients 128 h)
-unfolding walk
-product-done x h z v i e p =
-    let none : drop i (coefficients 128 x) ≡ [] = drop_all i (coefficients 128 x) (omega (arith, length-coefficients 128 x)) in
-    sym (plus-zeros_right 128 (coefficients 128 z) (omega (arith, length-coefficients 128 z)))
-    ∙ ap (λ q. plus (coefficients 128 z) (walk q (coefficients 128 v))) (sym none)
-    ∙ p ∙ sym (Mul-walk (coefficients 128 x) (coefficients 128 h) (length-coefficients 128 h))
+halved-times_x : (n : ℕ) → n < 2 ^ 128 → coefficients 128 (halved n) ≡ times_x (coefficients 128 n)
+halved-times_x n h = elim (cases_lt (n % 2) 1) [
+  | inl l ↦
+      let e : n % 2 ≡ 0 = omega arith in
+      rw e (ap (coefficients 128) (xor_zero_r (n / 2)) ∙ times_x-even n h e)
+  | inr g ↦ let e : n % 2 ≡ 1 = omega arith in rw e (times_x-odd n h e)
+]
+
+low_lt : (n : ℕ) → n % 2 * 0xe1000000000000000000000000000000 < 2 ^ 128
+low_lt n = elim (cases_lt (n % 2) 1) [
+  | inl l ↦ let e : n % 2 ≡ 0 = omega arith in rw e (lit< tt)
+  | inr g ↦ let e : n % 2 ≡ 1 = omega arith in rw e (lit< tt)
+]
+
+halved-lt : (n : ℕ) → n < 2 ^ 128 → halved n < 2 ^ 128
+halved-lt n h = xor_lt 128 (n / 2) (n % 2 * 0xe1000000000000000000000000000000) (omega arith) (low_lt n)
+
+pub halved4-times_x4 : (n : ℕ) → n < 2 ^ 128 → coefficients 128 (halved (halved (halved (halved n)))) ≡ times_x4 (coefficients 128 n)
+halved4-times_x4 n h =
+    let h1 = halved-lt n h in
+    let h2 = halved-lt (halved n) h1 in
+    let h3 = halved-lt (halved (halved n)) h2 in
+    halved-times_x (halved (halved (halved n))) h3
+    ∙ ap times_x (halved-times_x (halved (halved n)) h2)
+    ∙ ap (λ v. times_x (times_x v)) (halved-times_x (halved n) h1)
+    ∙ ap (λ v. times_x (times_x (times_x v))) (halved-times_x n h)
+
+-- x times twice a number
+twice-times_x : (k n : ℕ) → n < 2 ^ 128 → n ≡ k * 2 → coefficients 128 k ≡ times_x (coefficients 128 n)
+twice-times_x k n h e =
+    let half : k ≡ n / 2 = omega arith in
+    let even : n % 2 ≡ 0 = omega arith in
+    ap (coefficients 128) half ∙ times_x-even n h even
+
+pub sixteenfold-times_x4 : (k : ℕ) → k * 16 < 2 ^ 128 → coefficients 128 k ≡ times_x4 (coefficients 128 (k * 16))
+sixteenfold-times_x4 k h =
+    twice-times_x k (k * 2) (omega arith) refl
+    ∙ ap times_x (twice-times_x (k * 2) (k * 4) (omega arith) (omega arith))
+    ∙ ap (λ v. times_x (times_x v)) (twice-times_x (k * 4) (k * 8) (omega arith) (omega arith))
+    ∙ ap (λ v. times_x (times_x (times_x v))) (twice-times_x (k * 8) (k * 16) (omega arith) (omega arith))

@@ -1,13 +1,13 @@
 -- The key stream, byte by byte.
-use Rattle.std.proofs.Common.{◌≡◌, ℕ, ◌+◌, ◌-◌, ◌*◌, ◌/◌, ◌%◌, ◌^◌, ◌<◌, List, [], ◌∷◌, ◌++◌, length, map, drop, get_or, set, slice_index, refl, sym, ap, ◌∙◌, arith, bit_xor, append_assoc}
+use Rattle.std.proofs.Common.{◌≡◌, ℕ, ◌+◌, ◌-◌, ◌*◌, ◌/◌, ◌%◌, ◌^◌, ◌<◌, ◌≤◌, List, [], ◌∷◌, ◌++◌, length, map, drop, get_or, set, slice_index, refl, sym, ap, ◌∙◌, arith, bit_xor, append_assoc}
 use Rattle.std.specs.List.{range_with_len}
 use Rattle.std.specs.Int.{to_be_bytes, w32}
 use Rattle.std.specs.Int.Bits.{xor_self, xor_zero_r}
 use lib.Bits.{xor_assoc}
-use Rattle.std.proofs.lemmas.List.{append-nil, drop_all, drop_more, get_or-append_right, get_or-drop, set-append_right}
+use Rattle.std.proofs.lemmas.List.{append-nil, drop_all, drop_more, get_or-append_right, get_or-drop, length-append, length-drop, set-append_right}
 use Rattle.std.proofs.lemmas.List.FromFn.{fill_by_all, get_or-map-range_with_len, length-map-range_with_len, map-range_with_len_more}
 use Rattle.picky_aes.specs.Cipher.{cipher}
-use Rattle.picky_gcm.specs.Counter.{counted, counter_block, stream_byte}
+use Rattle.picky_gcm.specs.Counter.{counted, counted_to, counter_block, stream_byte}
 
 pub block-is : (nonce bs : List ℕ) (k : ℕ) → length nonce ≡ 12 → k + 1 < 2 ^ 32 → bs ≡ to_be_bytes w32 (k + 1)
     → slice_index nonce 0 ∷ slice_index nonce 1 ∷ slice_index nonce 2 ∷ slice_index nonce 3 ∷ slice_index nonce 4 ∷ slice_index nonce 5 ∷ slice_index nonce 6 ∷ slice_index nonce 7 ∷ slice_index nonce 8 ∷ slice_index nonce 9 ∷ slice_index nonce 10 ∷ slice_index nonce 11 ∷ slice_index bs 0 ∷ slice_index bs 1 ∷ slice_index bs 2 ∷ slice_index bs 3 ∷ []
@@ -48,20 +48,40 @@ stream_byte-at key nonce stream k i j h ej e =
 abbrev sum_at : List ℕ → List ℕ → List ℕ → ℕ → ℕ
 sum_at key nonce s j = bit_xor (slice_index s j) (stream_byte key nonce j)
 
--- the first m bytes counted, and the rest as before
-abbrev pub Counted : List ℕ → List ℕ → List ℕ → List ℕ → ℕ → Type 0
-Counted key nonce s zs m = zs ≡ map (λ j. bit_xor (slice_index s j) (stream_byte key nonce j)) (range_with_len 0 m) ++ drop m s
+length-counted_to : (key nonce s : List ℕ) (m : ℕ) → length (counted_to key nonce s m) ≡ m + (length s - m)
+unfolding counted_to
+length-counted_to key nonce s m =
+    length-append (map (sum_at key nonce s) (range_with_len 0 m)) (drop m s)
+    ∙ (λ i. length-map-range_with_len (sum_at key nonce s) 0 m i + length-drop m s i)
 
-pub Counted-more : (key nonce s zs stream : List ℕ) (k i m p : ℕ) → i < 16 → m ≡ 16 * k + i → p ≡ m + 1 → m < length s → stream ≡ cipher key (counter_block nonce (k + 1))
-    → Counted key nonce s zs m → Counted key nonce s (set zs m (bit_xor (get_or zs m 0) (slice_index stream i))) p
-Counted-more key nonce s zs stream k i m p h em ep l e done =
+pub counted-none : (key nonce s : List ℕ) → s ≡ counted_to key nonce s 0
+unfolding counted_to
+counted-none key nonce s = refl
+
+counted-next : (key nonce s zs stream : List ℕ) (k i m p : ℕ) → i < 16 → m ≡ 16 * k + i → p ≡ m + 1 → m < length s → stream ≡ cipher key (counter_block nonce (k + 1))
+    → zs ≡ counted_to key nonce s m → set zs m (bit_xor (get_or zs m 0) (slice_index stream i)) ≡ counted_to key nonce s p
+unfolding counted_to
+counted-next key nonce s zs stream k i m p h em ep l e done =
     written-more (sum_at key nonce s) s zs m (slice_index stream i) l done
     (ap (bit_xor (slice_index s m)) (stream_byte-at key nonce stream k i m h em e))
     ∙ ap (λ q. map (sum_at key nonce s) (range_with_len 0 q) ++ drop q s) (sym ep)
 
-pub Counted-all : (key nonce s zs : List ℕ) (m : ℕ) → m ≡ length s → Counted key nonce s zs m → zs ≡ counted key nonce s
-unfolding counted
-Counted-all key nonce s zs m e done =
+-- one more byte of the n that are counted from byte 16 * k of old on
+pub counted-more : (key nonce s old zs stream : List ℕ) (k i n m : ℕ) → i < n → n ≤ 16 → m ≡ 16 * k + i → 16 * k + n ≤ length old → stream ≡ cipher key (counter_block nonce (k + 1))
+    → old ≡ counted_to key nonce s (16 * k) → zs ≡ counted_to key nonce s m → set zs m (bit_xor (get_or zs m 0) (slice_index stream i)) ≡ counted_to key nonce s (m + 1)
+counted-more key nonce s old zs stream k i n m h hn em room e eo done =
+    let size : length old ≡ 16 * k + (length s - 16 * k) = ap length eo ∙ length-counted_to key nonce s (16 * k) in
+    counted-next key nonce s zs stream k i m (m + 1) (omega arith) em refl (omega arith) e done
+
+pub counted-place : (key nonce s zs : List ℕ) (m n : ℕ) → m ≡ n → zs ≡ counted_to key nonce s m → zs ≡ counted_to key nonce s n
+counted-place key nonce s zs m n e done = done ∙ ap (counted_to key nonce s) e
+
+pub stream-place : (key nonce stream : List ℕ) (m n : ℕ) → m ≡ n → stream ≡ cipher key (counter_block nonce m) → stream ≡ cipher key (counter_block nonce n)
+stream-place key nonce stream m n h e = e ∙ ap (λ k. cipher key (counter_block nonce k)) h
+
+pub counted-all : (key nonce s zs : List ℕ) (m : ℕ) → m ≡ length s → zs ≡ counted_to key nonce s m → zs ≡ counted key nonce s
+unfolding counted counted_to
+counted-all key nonce s zs m e done =
     done ∙ ap (λ q. map (sum_at key nonce s) (range_with_len 0 q) ++ drop q s) e
     ∙ ap (λ l. map (sum_at key nonce s) (range_with_len 0 (length s)) ++ l) (drop_all (length s) s (omega arith)) ∙ append-nil (map (sum_at key nonce s) (range_with_len 0 (length s)))
 

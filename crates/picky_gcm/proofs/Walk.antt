@@ -89,6 +89,12 @@ times_x-plus u v =
     ∙ ap (plus (plus (false ∷ take 127 u) (false ∷ take 127 v))) (plus-scale (get_or u 127 false) (get_or v 127 false) tail)
     ∙ interchange (false ∷ take 127 u) (false ∷ take 127 v) (scale (get_or u 127 false) tail) (scale (get_or v 127 false) tail)
 
+pub plus-append : (p q r s : List Bool) → length p ≡ length q → plus (p ++ r) (q ++ s) ≡ plus p q ++ plus r s
+plus-append [] [] r s h = refl
+plus-append [] (b ∷ q) r s h = absurd (omega arith)
+plus-append (a ∷ p) [] r s h = absurd (omega arith)
+plus-append (a ∷ p) (b ∷ q) r s h = ap (λ l. odd a b ∷ l) (plus-append p q r s (omega arith))
+
 -- ---- zeros
 pub plus-zeros : (n : ℕ) (p : List Bool) → n ≤ length p → plus (zeros n) p ≡ p
 unfolding zeros

@@ -1,5 +1,5 @@
 -- Counter mode (SP 800-38D, 6.2 and 6.5) with AES and a nonce of 12 bytes.
-use Rattle.std.specs.Prelude.{ℕ, ◌+◌, ◌/◌, ◌%◌, ◌^◌, List, ◌++◌, length, map, slice_index, bit_xor}
+use Rattle.std.specs.Prelude.{ℕ, ◌+◌, ◌/◌, ◌%◌, ◌^◌, List, ◌++◌, length, map, drop, slice_index, bit_xor}
 use Rattle.std.specs.List.{range_with_len}
 use Rattle.std.specs.Int.{to_be_bytes, w32}
 use Rattle.picky_aes.specs.Cipher.{cipher}
@@ -15,3 +15,7 @@ stream_byte key nonce j = slice_index (cipher key (counter_block nonce (1 + j / 
 -- a text with the key stream added
 unfoldable pub counted : List ℕ → List ℕ → List ℕ → List ℕ
 counted key nonce text = map (λ j. bit_xor (slice_index text j) (stream_byte key nonce j)) (range_with_len 0 (length text))
+
+-- a text of which the first m bytes have the key stream added, and the others none
+unfoldable pub counted_to : List ℕ → List ℕ → List ℕ → ℕ → List ℕ
+counted_to key nonce text m = map (λ j. bit_xor (slice_index text j) (stream_byte key nonce j)) (range_with_len 0 m) ++ drop m text

@@ -1,4 +1,5 @@
 pub mod Polynomial
+pub mod Table
 pub mod Hash
 pub mod Counter
 pub mod Gcm

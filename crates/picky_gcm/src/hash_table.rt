@@ -1,10 +1,10 @@
 // GHASH (SP 800-38D, 6.4) over additional data and a text.
-ghost use Rattle.std.specs.Prelude.{◌≡◌, ◌<◌, ◌≤◌, ◌+◌, ◌-◌, ◌*◌, ◌^◌, ◌++◌, length, slice_range};
-ghost use Rattle.std.specs.Int.{to_be_bytes, w64};
+ghost use Rattle.std.specs.Prelude.{◌≡◌, ◌<◌, ◌≤◌, ◌+◌, ◌-◌, ◌*◌, ◌^◌, ◌++◌, Bool, List, get_or, length, slice_range};
 ghost use Rattle.picky_gcm.specs.Hash.{Ghash_from, blocks, hash_of, padded};
-ghost use Rattle.picky_gcm.specs.Polynomial.{coefficients};
+ghost use Rattle.picky_gcm.specs.Polynomial.{Mul, block_of, coefficients};
+ghost use Rattle.picky_gcm.specs.Table.{IsTable, pair_block};
 
-use crate::polynomial::{bytes_of, multiply, number_of};
+use crate::pairs::{add, bytes_of, pair_of, times_x, times_x4};
 use std::marker::Model;
 
 // Block `k` of the bytes, with zeros past their end.
@@ -19,40 +19,63 @@ fn padded_block(bytes: &[u8], k: usize) -> [u8; 16]
     block
 }
 
-// The hash of what was hashed to `before` and of the blocks of more bytes.
-fn hashed_on(key: u128, before: u128, bytes: &[u8]) -> u128
-    ensures { coefficients 128 result ≡ Ghash_from (coefficients 128 key) (coefficients 128 before) (blocks (padded bytes.now)) }
+// The products of a block and the sixteen polynomials of four coefficients.
+fn products_of(key: (u64, u64)) -> [(u64, u64); 16]
+    ensures table { IsTable (pair_block key) result }
+    ensures key { get_or result 8 (0, 0) ≡ key }
 {
-    let mut hash = before;
-    for k in 0..bytes.len().div_ceil(16) {
-        hash = multiply(hash ^ number_of(padded_block(bytes, k)), key);
-    }
-    hash
-}
-
-// Two numbers of bits, 64 bits each.
-fn joined(aad_bits: u64, text_bits: u64) -> [u8; 16]
-    ensures { result ≡ to_be_bytes w64 aad_bits ++ to_be_bytes w64 text_bits }
-{
-    let [a, b, c, d, e, f, g, h] = aad_bits.to_be_bytes();
-    let [i, j, k, l, m, n, o, p] = text_bits.to_be_bytes();
-    [a, b, c, d, e, f, g, h, i, j, k, l, m, n, o, p]
+    let e8 = key;
+    let e4 = times_x(e8);
+    let e2 = times_x(e4);
+    let e1 = times_x(e2);
+    let e3 = add(e2, e1);
+    let e5 = add(e4, e1);
+    let e6 = add(e4, e2);
+    let e7 = add(e4, e3);
+    let e9 = add(e8, e1);
+    let e10 = add(e8, e2);
+    let e11 = add(e8, e3);
+    let e12 = add(e8, e4);
+    let e13 = add(e8, e5);
+    let e14 = add(e8, e6);
+    let e15 = add(e8, e7);
+    [
+        (0, 0),
+        e1,
+        e2,
+        e3,
+        e4,
+        e5,
+        e6,
+        e7,
+        e8,
+        e9,
+        e10,
+        e11,
+        e12,
+        e13,
+        e14,
+        e15,
+    ]
 }
 
 /// The hash function GHASH (SP 800-38D, 6.4) under one hash key, a block of 16 bytes.
 ///
-/// Contracts see a `HashTable` as the bytes of its hash key.
+/// Contracts see a `HashTable` as the bytes of its hash key. It keeps the sixteen products that [`HashTable::entries`] gives.
 #[derive(Drop)]
 pub struct HashTable {
-    key: [u8; 16],
+    entries: [(u64, u64); 16],
 }
 
 impl Model for HashTable {
-    ghost use Rattle.std.specs.Prelude.{ℕ, List};
+    ghost use Rattle.std.specs.Prelude.{ℕ, List, get_or};
+    ghost use Rattle.picky_gcm.specs.Table.{IsTable, pair_block, pair_bytes};
 
     ghost Value = { List ℕ };
 
-    ghost view = { λ t. t.key };
+    ghost view = { λ t. pair_bytes (get_or t.entries 8 (0, 0)) };
+
+    ghost invariant = { λ t. IsTable (pair_block (get_or t.entries 8 (0, 0))) t.entries };
 }
 
 impl HashTable {
@@ -60,7 +83,48 @@ impl HashTable {
     pub fn new(h: &[u8; 16]) -> Self
         ensures { result ≡ h.now }
     {
-        HashTable { key: *h }
+        HashTable {
+            entries: products_of(pair_of(*h)),
+        }
+    }
+
+    /// The products of the hash key and the sixteen polynomials of four coefficients: entry `i` is that of the polynomial
+    /// whose coefficients of x^0 to x^3 are the four bits of `i`, the highest first. An entry is the first and the last
+    /// eight bytes of a block as big-endian numbers.
+    pub fn entries(&self) -> &[(u64, u64); 16]
+        ensures { IsTable (block_of self.now) result.now }
+    {
+        &self.entries
+    }
+
+    // The product of the hash key and a polynomial that begins with 64 coefficients, of which `after` is the product of
+    // the others.
+    fn times_half(&self, half: u64, after: (u64, u64)) -> (u64, u64)
+        ensures { (p : List Bool) → pair_block after ≡ Mul p (block_of self.now) → pair_block result ≡ Mul (coefficients 64 half ++ p) (block_of self.now) }
+    {
+        let mut product = after;
+        for i in 0..16u32 {
+            let entry = self.entries[((half >> (4 * i)) % 16) as usize];
+            product = add(times_x4(product), entry);
+        }
+        product
+    }
+
+    fn multiply(&self, block: (u64, u64)) -> (u64, u64)
+        ensures { pair_block result ≡ Mul (pair_block block) (block_of self.now) }
+    {
+        self.times_half(block.0, self.times_half(block.1, (0, 0)))
+    }
+
+    // The hash of what was hashed to `before` and of the blocks of more bytes.
+    fn hashed_on(&self, before: (u64, u64), bytes: &[u8]) -> (u64, u64)
+        ensures { pair_block result ≡ Ghash_from (block_of self.now) (pair_block before) (blocks (padded bytes.now)) }
+    {
+        let mut hash = before;
+        for k in 0..bytes.len().div_ceil(16) {
+            hash = self.multiply(add(hash, pair_of(padded_block(bytes, k))));
+        }
+        hash
     }
 
     /// The hash of additional data and a text: of both padded with zeros to whole blocks, and of their numbers of bits.
@@ -70,10 +134,9 @@ impl HashTable {
         requires text { length text.now ≤ 2 ^ 36 - 32 }
         ensures { result ≡ hash_of self.now aad.now text.now }
     {
-        let key = number_of(self.key);
-        let of_aad = hashed_on(key, 0, aad);
-        let of_both = hashed_on(key, of_aad, text);
-        let lengths = joined(8 * aad.len() as u64, 8 * text.len() as u64);
-        bytes_of(multiply(of_both ^ number_of(lengths), key))
+        let of_aad = self.hashed_on((0, 0), aad);
+        let of_both = self.hashed_on(of_aad, text);
+        let lengths = (8 * aad.len() as u64, 8 * text.len() as u64);
+        bytes_of(self.multiply(add(of_both, lengths)))
     }
 }

@@ -1,12 +1,9 @@
-use Rattle.std.proofs.Common.{◌+◌, ◌*◌}
-use Rattle.picky_gcm.proofs.Stream.{Counted}
+use Rattle.std.proofs.Common.{◌≡◌, ◌*◌, length, min}
+use Rattle.picky_gcm.specs.Counter.{counted_to}
 use Rattle.picky_gcm.proofs.counter.count.Given as goal
 
-abbrev pub invariant-loop-i : goal.invariant-loop-i
-invariant-loop-i l = Counted l.aes l.nonce l.fn.buffer l.buffer (16 * l.k + l.i)
+abbrev pub invariant-loop-j : goal.invariant-loop-j
+invariant-loop-j l = l.buffer ≡ counted_to l.aes l.nonce l.fn.buffer (64 * l.j)
 
 abbrev pub invariant-loop-k : goal.invariant-loop-k
-invariant-loop-k l = Counted l.aes l.nonce l.fn.buffer l.buffer (16 * l.k)
-
-abbrev pub invariant-loop-i-then-size-ne0 : goal.invariant-loop-i-then-size-ne0
-invariant-loop-i-then-size-ne0 l = Counted l.aes l.nonce l.fn.buffer l.buffer (16 * l.whole + l.i)
+invariant-loop-k l = l.buffer ≡ counted_to l.aes l.nonce l.fn.buffer (min (16 * l.k) (length l.fn.buffer))
