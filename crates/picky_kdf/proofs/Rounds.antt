@@ -14,12 +14,6 @@ pub first-hashed : (hash : Pkcs12HashAlgorithm) (text out : List ℕ) → take (
 unfolding hashed
 first-hashed hash text out e = e
 
-pub next-hashed : (hash : Pkcs12HashAlgorithm) (text : List ℕ) (n size : ℕ) (last out : List ℕ) → size ≡ digest_size hash
-    → take (digest_size hash) last ≡ hashed hash text n → take (digest_size hash) out ≡ digest hash (take size last) → take (digest_size hash) out ≡ hashed hash text (n + 1)
-unfolding hashed
-next-hashed hash text n size last out es el eo =
-    rw (add-one n) (eo ∙ ap (digest hash) (ap (λ k. take k last) es ∙ el))
-
 -- what each round of the derivation hashes first, and the text of its first round
 abbrev pub diversifier_of : Pkcs12HashAlgorithm → Pbkdf1Usage → List ℕ
 diversifier_of hash usage = replicate (block_size hash) (usage_id usage)

@@ -4,7 +4,6 @@ ghost use Rattle.std.specs.Prelude.{◌≡◌, ⊤, ℕ, List, [], ◌++◌, tak
 ghost use Rattle.picky_kdf.specs.Hash.{block_size, digest, digest_size};
 
 use sha2::Digest;
-use std::alloc::AllocError;
 
 /// A hash function of FIPS 180-4 that a PKCS #12 store may name.
 #[derive(Clone, Copy, PartialEq, Eq, Debug)]
@@ -47,6 +46,14 @@ impl Pkcs12HashAlgorithm {
     }
 }
 
+// A clone of a value whose clone does not fail.
+fn copied<T: Clone>(value: &T) -> T
+    requires { T.is_infallible value.now }
+    ensures { T.is_clone value.now result }
+{
+    value.clone().unwrap()
+}
+
 // A hasher of any of the five functions.
 #[derive(Drop)]
 pub(crate) enum Hasher {
@@ -70,6 +77,19 @@ impl Hasher {
             Pkcs12HashAlgorithm::Sha256 => Hasher::Sha256(sha2::Sha256::new()),
             Pkcs12HashAlgorithm::Sha384 => Hasher::Sha384(sha2::Sha384::new()),
             Pkcs12HashAlgorithm::Sha512 => Hasher::Sha512(sha2::Sha512::new()),
+        }
+    }
+
+    // Another hasher of the same message.
+    pub(crate) fn copied(&self) -> Hasher
+        ensures { result ≡ self.now }
+    {
+        match self {
+            Hasher::Sha1(hasher) => Hasher::Sha1(copied(hasher)),
+            Hasher::Sha224(hasher) => Hasher::Sha224(copied(hasher)),
+            Hasher::Sha256(hasher) => Hasher::Sha256(copied(hasher)),
+            Hasher::Sha384(hasher) => Hasher::Sha384(copied(hasher)),
+            Hasher::Sha512(hasher) => Hasher::Sha512(copied(hasher)),
         }
     }
 
@@ -105,16 +125,64 @@ impl Hasher {
     }
 }
 
-impl Clone for Hasher {
-    ghost is_clone = { λ x y. y ≡ x };
+// A hash function whose hashes have `N` bytes.
+pub(crate) trait Rehash<const N: usize> {
+    ghost use Rattle.picky_kdf.specs.declared.hash.Pkcs12HashAlgorithm.{Pkcs12HashAlgorithm};
 
-    fn clone(&self) -> Result<Hasher, AllocError> {
-        Ok(match self {
-            Hasher::Sha1(hasher) => Hasher::Sha1(hasher.clone()?),
-            Hasher::Sha224(hasher) => Hasher::Sha224(hasher.clone()?),
-            Hasher::Sha256(hasher) => Hasher::Sha256(hasher.clone()?),
-            Hasher::Sha384(hasher) => Hasher::Sha384(hasher.clone()?),
-            Hasher::Sha512(hasher) => Hasher::Sha512(hasher.clone()?),
-        })
+    // Which of the five it is.
+    ghost function: { Pkcs12HashAlgorithm };
+
+    // The hash of a hash.
+    fn rehashed(last: &[u8; N]) -> [u8; N]
+        ensures { result ≡ digest function last.now };
+}
+
+impl Rehash<20> for sha1::Sha1 {
+    ghost use Rattle.picky_kdf.specs.declared.hash.Pkcs12HashAlgorithm.TheVariants.{Sha1};
+
+    ghost function = { Sha1 };
+
+    fn rehashed(last: &[u8; 20]) -> [u8; 20] {
+        sha1::Sha1::digest(last)
+    }
+}
+
+impl Rehash<28> for sha2::Sha224 {
+    ghost use Rattle.picky_kdf.specs.declared.hash.Pkcs12HashAlgorithm.TheVariants.{Sha224};
+
+    ghost function = { Sha224 };
+
+    fn rehashed(last: &[u8; 28]) -> [u8; 28] {
+        sha2::Sha224::digest(last)
+    }
+}
+
+impl Rehash<32> for sha2::Sha256 {
+    ghost use Rattle.picky_kdf.specs.declared.hash.Pkcs12HashAlgorithm.TheVariants.{Sha256};
+
+    ghost function = { Sha256 };
+
+    fn rehashed(last: &[u8; 32]) -> [u8; 32] {
+        sha2::Sha256::digest(last)
+    }
+}
+
+impl Rehash<48> for sha2::Sha384 {
+    ghost use Rattle.picky_kdf.specs.declared.hash.Pkcs12HashAlgorithm.TheVariants.{Sha384};
+
+    ghost function = { Sha384 };
+
+    fn rehashed(last: &[u8; 48]) -> [u8; 48] {
+        sha2::Sha384::digest(last)
+    }
+}
+
+impl Rehash<64> for sha2::Sha512 {
+    ghost use Rattle.picky_kdf.specs.declared.hash.Pkcs12HashAlgorithm.TheVariants.{Sha512};
+
+    ghost function = { Sha512 };
+
+    fn rehashed(last: &[u8; 64]) -> [u8; 64] {
+        sha2::Sha512::digest(last)
     }
 }

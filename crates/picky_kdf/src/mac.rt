@@ -57,22 +57,17 @@ impl KeyedHashers {
     }
 
     // The HMAC of `first` and `second` as one message, in the front of an array.
-    pub(crate) fn mac(
-        &self,
-        hash: Pkcs12HashAlgorithm,
-        first: &[u8],
-        second: &[u8],
-    ) -> Result<[u8; 64], AllocError>
+    pub(crate) fn mac(&self, hash: Pkcs12HashAlgorithm, first: &[u8], second: &[u8]) -> [u8; 64]
         ensures { (key : List ℕ) → IsKeyed hash self.now key
-            → IfOk result (λ out. take (digest_size hash) out ≡ hmac hash key (first.now ++ second.now)) }
+            → take (digest_size hash) result ≡ hmac hash key (first.now ++ second.now) }
     {
-        let mut inner = self.inner.clone()?;
+        let mut inner = self.inner.copied();
         inner.update(first);
         inner.update(second);
         let digest = inner.finalize();
-        let mut outer = self.outer.clone()?;
+        let mut outer = self.outer.copied();
         outer.update(&digest[..hash.digest_size()]);
-        Ok(outer.finalize())
+        outer.finalize()
     }
 }
 
@@ -87,6 +82,6 @@ pub fn hmac(
     ensures mac { IfOk result (λ mac. mac.items ≡ hmac hash key.now message.now) }
     ensures size { IfOk result (λ mac. length mac.items ≡ digest_size hash) }
 {
-    let mac = KeyedHashers::new(hash, key).mac(hash, message, &[])?;
+    let mac = KeyedHashers::new(hash, key).mac(hash, message, &[]);
     mac[..hash.digest_size()].to_vec(alloc)
 }

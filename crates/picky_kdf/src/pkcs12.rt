@@ -4,8 +4,10 @@ ghost use Rattle.std.specs.Prelude.{◌≡◌, ◌≤◌, ◌<◌, ◌+◌, ◌-
 ghost use Rattle.picky_kdf.specs.Hash.{digest_size};
 ghost use Rattle.picky_kdf.specs.Pkcs12Kdf.{cycled, hashed, pbkdf1, raised, raised_blocks, repeated, usage_id};
 
-use crate::hash::{Hasher, Pkcs12HashAlgorithm};
+use crate::hash::{Hasher, Pkcs12HashAlgorithm, Rehash};
 use crate::pkcs5::parts_for;
+use sha1::Sha1;
+use sha2::{Sha224, Sha256, Sha384, Sha512};
 use std::alloc::{AllocError, Global};
 
 /// What derived bytes are for (RFC 7292, appendix B.3).
@@ -55,6 +57,34 @@ fn cycled(text: &[u8]) -> [u8; 128]
     out
 }
 
+// Hashes the hash in the front of an array again and again.
+fn rehash<H: Rehash<N>, const N: usize>(front: &mut [u8; 64], times: usize)
+    requires { N ≤ 64 }
+    ensures { (text : List ℕ) → (n : ℕ) → take N front.old ≡ hashed H.function text n
+        → take N front.new ≡ hashed H.function text (n + times) }
+{
+    let mut last = [0; N];
+    last.copy_from_slice(&front[..N]);
+    for done in 0..times {
+        last = H::rehashed(&last);
+    }
+    front[..N].copy_from_slice(&last);
+}
+
+// Hashes the hash in the front of an array again and again, in the loop of its function.
+fn rehash_by(hash: Pkcs12HashAlgorithm, front: &mut [u8; 64], times: usize)
+    ensures { (text : List ℕ) → (n : ℕ) → take (digest_size hash) front.old ≡ hashed hash text n
+        → take (digest_size hash) front.new ≡ hashed hash text (n + times) }
+{
+    match hash {
+        Pkcs12HashAlgorithm::Sha1 => rehash::<Sha1, 20>(front, times),
+        Pkcs12HashAlgorithm::Sha224 => rehash::<Sha224, 28>(front, times),
+        Pkcs12HashAlgorithm::Sha256 => rehash::<Sha256, 32>(front, times),
+        Pkcs12HashAlgorithm::Sha384 => rehash::<Sha384, 48>(front, times),
+        Pkcs12HashAlgorithm::Sha512 => rehash::<Sha512, 64>(front, times),
+    }
+}
+
 // The hash of `diversifier` and `text`, hashed again up to `iterations` hashes, in the front of an
 // array.
 fn round_hash(
@@ -66,17 +96,12 @@ fn round_hash(
     requires { 1 ≤ iterations }
     ensures { take (digest_size hash) result ≡ hashed hash (diversifier.now ++ text.now) iterations }
 {
-    let size = hash.digest_size();
     let mut hasher = Hasher::new(hash);
     hasher.update(diversifier);
     hasher.update(text);
-    let mut last = hasher.finalize();
-    for done in 1..iterations {
-        let mut hasher = Hasher::new(hash);
-        hasher.update(&last[..size]);
-        last = hasher.finalize();
-    }
-    last
+    let mut front = hasher.finalize();
+    rehash_by(hash, &mut front, iterations - 1);
+    front
 }
 
 // Adds `b` and 1 to `block`, both as numbers with the highest byte first; what does not fit is

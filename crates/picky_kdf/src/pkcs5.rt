@@ -27,19 +27,19 @@ fn key_sum(
     salt: &[u8],
     number: u32,
     iterations: u32,
-) -> Result<[u8; 64], AllocError>
+) -> [u8; 64]
     requires { 1 ≤ iterations }
     ensures { (password : List ℕ) → IsKeyed hash hashers.now password
-        → IfOk result (λ sum. take (digest_size hash) sum ≡ key_sum hash password salt.now number iterations) }
+        → take (digest_size hash) result ≡ key_sum hash password salt.now number iterations }
 {
     let size = hash.digest_size();
-    let mut last = hashers.mac(hash, salt, &number.to_be_bytes())?;
+    let mut last = hashers.mac(hash, salt, &number.to_be_bytes());
     let mut sum = last;
     for done in 1..iterations {
-        last = hashers.mac(hash, &last[..size], &[])?;
+        last = hashers.mac(hash, &last[..size], &[]);
         add_bytes(&mut sum, &last);
     }
-    Ok(sum)
+    sum
 }
 
 // How many parts of `part` bytes cover `size` bytes.
@@ -71,7 +71,7 @@ pub fn pbkdf2(
     let part = hash.digest_size();
     let mut key = Vec::new(alloc);
     for done in 0..parts_for(part, size) {
-        let sum = key_sum(&hashers, hash, salt, done + 1, iterations)?;
+        let sum = key_sum(&hashers, hash, salt, done + 1, iterations);
         key.extend_from_slice(&sum[..part])?;
     }
     key.truncate(size);

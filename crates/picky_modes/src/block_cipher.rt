@@ -37,6 +37,7 @@ impl BlockCipher for Aes {
 
     ghost enciphered = { cipher };
 
+    #[inline(always)]
     fn encipher(&self, block: &mut [u8]) {
         let mut room = [0; 16];
         room.copy_from_slice(block);
@@ -44,6 +45,7 @@ impl BlockCipher for Aes {
         block.copy_from_slice(&room);
     }
 
+    #[inline(always)]
     fn decipher(&self, block: &mut [u8]) {
         let mut room = [0; 16];
         room.copy_from_slice(block);
@@ -53,6 +55,7 @@ impl BlockCipher for Aes {
 }
 
 // Adds `mask` to the block.
+#[inline(always)]
 pub(crate) fn xor_into(block: &mut [u8], mask: &[u8])
     requires { length block.old ≡ length mask.now }
     ensures { block.new ≡ add_bytes block.old mask.now }

@@ -1,4 +1,5 @@
-// Cipher block chaining over any block cipher, and the calls under AES.
+// Cipher block chaining over any block cipher, and the calls under AES. What is generic is inlined into the calls, where the size of a
+// block is a constant.
 ghost use Rattle.picky_contract.specs.Sums.{add_bytes};
 ghost use Rattle.picky_aes.specs.Cipher.{cipher};
 ghost use Rattle.std.specs.Prelude.{◌≡◌, ◌<◌, ◌≤◌, ◌+◌, ◌-◌, ◌%◌, ℕ, List, length, take, IfOk, IfSome};
@@ -10,6 +11,7 @@ use picky_aes::Aes;
 use std::alloc::{AllocError, Global};
 
 // Enciphers the block behind the sealed block `chain`, which it replaces there.
+#[inline(always)]
 fn seal_block<C: BlockCipher>(cipher: &C, chain: &mut [u8], block: &mut [u8])
     requires ready { C.is_ready cipher.now }
     requires size { length chain.old ≡ C.size cipher.now }
@@ -23,6 +25,7 @@ fn seal_block<C: BlockCipher>(cipher: &C, chain: &mut [u8], block: &mut [u8])
 }
 
 // Deciphers the block behind the sealed block `chain`, which it replaces there.
+#[inline(always)]
 fn open_block<C: BlockCipher>(cipher: &C, chain: &mut [u8], block: &mut [u8])
     requires ready { C.is_ready cipher.now }
     requires size { length chain.old ≡ C.size cipher.now }
@@ -42,6 +45,7 @@ fn open_block<C: BlockCipher>(cipher: &C, chain: &mut [u8], block: &mut [u8])
 }
 
 // Enciphers whole blocks in place, behind the block `chain`.
+#[inline(always)]
 fn seal_blocks<C: BlockCipher>(cipher: &C, chain: &mut [u8], buffer: &mut [u8])
     requires ready { C.is_ready cipher.now }
     requires size { length chain.old ≡ C.size cipher.now }
@@ -56,6 +60,7 @@ fn seal_blocks<C: BlockCipher>(cipher: &C, chain: &mut [u8], buffer: &mut [u8])
 }
 
 // Deciphers whole blocks in place, behind the block `chain`.
+#[inline(always)]
 fn open_blocks<C: BlockCipher>(cipher: &C, chain: &mut [u8], buffer: &mut [u8])
     requires ready { C.is_ready cipher.now }
     requires size { length chain.old ≡ C.size cipher.now }
@@ -78,10 +83,9 @@ fn padded_text(alloc: Global, size: usize, text: &[u8]) -> Result<Vec<u8>, Alloc
     ensures { IfOk result (λ v. v.items ≡ padded size text.now) }
 {
     let count = size - text.len() % size;
-    let mut padded = Vec::from_slice(alloc, text)?;
-    for _i in 0..count {
-        padded.push(count as u8)?;
-    }
+    let mut padded = Vec::with_capacity(alloc, text.len() + count)?;
+    padded.extend_from_slice(text)?;
+    padded.resize(text.len() + count, count as u8)?;
     Ok(padded)
 }
 
@@ -107,6 +111,7 @@ fn text_length(size: usize, plain: &[u8]) -> Option<usize>
 }
 
 // The CBC encryption of the padded text, behind the block `chain`.
+#[inline(always)]
 pub(crate) fn sealed_text<C: BlockCipher>(
     alloc: Global,
     cipher: &C,
@@ -126,6 +131,7 @@ pub(crate) fn sealed_text<C: BlockCipher>(
 }
 
 // Decrypts the buffer in place, behind the block `chain`: the bytes of the text in its front.
+#[inline(always)]
 pub(crate) fn open_text<C: BlockCipher>(
     cipher: &C,
     chain: &mut [u8],

@@ -104,7 +104,8 @@ pub fn key_wrap(alloc: Global, aes: &Aes, plain: &[u8]) -> Result<Vec<u8>, Alloc
     ensures wrapped { IfOk result (λ v. v.items ≡ wrapped_key (cipher aes.now) plain.now) }
     ensures size { IfOk result (λ v. length v.items ≡ length plain.now + 8) }
 {
-    let mut registers = Vec::from_slice(alloc, &INITIAL_VALUE)?;
+    let mut registers = Vec::with_capacity(alloc, plain.len() + 8)?;
+    registers.extend_from_slice(&INITIAL_VALUE)?;
     registers.extend_from_slice(plain)?;
     wrap_registers(aes, registers.as_mut_slice(), plain.len() / 8);
     Ok(registers)

@@ -8,7 +8,7 @@ use Rattle.picky_kdf.proofs.pkcs5.pbkdf2.Goals as goal
 
 pub slice_bounds-extend_from_slice-end : goal.slice_bounds-extend_from_slice-end
 slice_bounds-extend_from_slice-end c =
-    sym (length-take-le c.digest_size-part.result c.in_ok-sum.sum (omega (arith, digest_size-le c.args.hash)))
+    sym (length-take-le c.digest_size-part.result c.key_sum-sum.result (omega (arith, digest_size-le c.args.hash)))
 
 pub loop-done-init : goal.loop-done-init
 loop-done-init c = record { key = c.new-key.ensures.items; size = omega (arith, ap length c.new-key.ensures.items) }
@@ -16,12 +16,12 @@ loop-done-init c = record { key = c.new-key.ensures.items; size = omega (arith, 
 pub loop-done-preserved : goal.loop-done-preserved
 loop-done-preserved c =
     let number : c.loop-done.done + 1 ≡ 1 + c.loop-done.done = omega arith in
-    let part = take c.digest_size-part.result c.in_ok-sum.sum in
-    let sized : length part ≡ c.digest_size-part.result = length-take-le c.digest_size-part.result c.in_ok-sum.sum (omega (arith, digest_size-le c.args.hash)) in
+    let part = take c.digest_size-part.result c.key_sum-sum.result in
+    let sized : length part ≡ c.digest_size-part.result = length-take-le c.digest_size-part.result c.key_sum-sum.result (omega (arith, digest_size-le c.args.hash)) in
     record {
       key = c.in_ok-extend_from_slice.ensures.items
           ∙ joined_more (λ i. key_sum c.args.hash c.args.password.now c.args.salt.now i c.args.iterations) 1 c.loop-done.done (c.loop-done.done + 1) c.loop-done.key.items part c.loop-done.invariant.key
-          (ap (λ n. take n c.in_ok-sum.sum) c.digest_size-part.ensures ∙ c.in_ok-sum.ensures c.args.password.now c.new-hashers.ensures) number;
+          (ap (λ n. take n c.key_sum-sum.result) c.digest_size-part.ensures ∙ c.key_sum-sum.ensures c.args.password.now c.new-hashers.ensures) number;
       size = ap length c.in_ok-extend_from_slice.ensures.items ∙ length_more c.loop-done.key.items part c.loop-done.done c.digest_size-part.result c.loop-done.invariant.size sized;
     }
 
