@@ -10,7 +10,7 @@ use std::time::Instant;
 
 pub(crate) const MEBIBYTE: usize = 1 << 20;
 
-const MOST_TEXT: usize = (1 << 36) - 32;
+pub(crate) const MOST_TEXT: usize = (1 << 36) - 32;
 
 // So many bytes counted out: byte `j` is `j % 251`.
 pub(crate) fn counted(alloc: Global, size: usize) -> Result<Vec<u8>, AllocError> {

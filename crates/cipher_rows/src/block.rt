@@ -3,8 +3,11 @@
 //     aes.encrypt KEY BLOCK
 //     aes.decrypt KEY BLOCK
 //     aes.encrypt_times KEY BLOCK COUNT      the block encrypted so often, one after another
+//     aes.agrees KEY BLOCK COUNT     whether it and AES byte by byte agree on so many blocks, one after another, both ways
+use crate::byte_aes::ByteAes;
 use crate::given::{aes, block};
 use anyhow::{Result, bail};
+use picky_cipher::Aes;
 use rows::{Answer, Words};
 use std::alloc::Global;
 
@@ -13,6 +16,7 @@ pub(crate) fn answer(alloc: Global, call: &str, words: &mut Words<'_>) -> Result
         "encrypt" => encrypted(alloc, words, false),
         "encrypt_times" => encrypted(alloc, words, true),
         "decrypt" => decrypted(alloc, words),
+        "agrees" => agrees(alloc, words),
         _ => bail!("no such call"),
     }
 }
@@ -32,4 +36,28 @@ fn decrypted(alloc: Global, words: &mut Words<'_>) -> Result<Answer> {
     let mut block = block(words)?;
     aes.decrypt_block(&mut block);
     Answer::bytes(alloc, &block)
+}
+
+fn agrees(alloc: Global, words: &mut Words<'_>) -> Result<Answer> {
+    let key = words.bytes(alloc)?;
+    if key.len() != 16 && key.len() != 24 && key.len() != 32 {
+        bail!("a key of {} bytes", key.len());
+    }
+    let aes = Aes::new(&key);
+    let slow = ByteAes::new(&key);
+    let start = block(words)?;
+    let mut block = start;
+    let mut other = start;
+    for _ in 0..words.size()? {
+        aes.encrypt_block(&mut block);
+        slow.encrypt_block(&mut other);
+        let mut back = block;
+        let mut other_back = other;
+        aes.decrypt_block(&mut back);
+        slow.decrypt_block(&mut other_back);
+        if block != other || back != other_back {
+            return Ok(Answer::Truth(false));
+        }
+    }
+    Ok(Answer::Truth(true))
 }

@@ -2,12 +2,14 @@
 #![tactic(auto)]
 
 mod block;
+mod byte_aes;
 mod cbc;
 mod derived;
 mod gcm;
 mod given;
 mod kdf;
 mod pbes1;
+mod slow;
 mod wrap;
 
 use anyhow::{Result, bail};
