@@ -13,12 +13,14 @@
 //     der_list, der_tagged
 //                      wrappers made of their inner values and changed        (wrapped.rt)
 //     der_ten          a field of a type with a default of its own            (ten.rt)
+//     der_record       records of fields                                      (records.rt)
 //     der_long         inputs that are made here, of a count                  (long.rt)
 mod defaults;
 mod faults;
 mod fields;
 mod long;
 mod made;
+mod records;
 mod simple;
 mod ten;
 mod times;
@@ -38,6 +40,7 @@ pub fn answer(alloc: Global, notion: &str, call: &str, words: &mut Words<'_>) ->
         "der_type" => types::answer(call, words),
         "der_fault" => faults::answer(alloc, call, words),
         "der_long" => long::answer(alloc, call, words),
+        "der_record" => records::answer(alloc, call, words),
         "der_ten" => ten::answer(alloc, call, words),
         _ => answer_of_made(alloc, notion, call, words),
     }

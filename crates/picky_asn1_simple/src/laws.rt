@@ -1,5 +1,5 @@
 //! What is proved of simple values beside their calls.
-ghost use Rattle.picky_der.specs.Form.{IsWrittenInForm};
+ghost use Rattle.picky_der.specs.Form.{IsWrittenInForm, NestsAtMost};
 
 use crate::bit_string::BitStringAsn1;
 use crate::object_identifier::ObjectIdentifierAsn1;
@@ -14,4 +14,12 @@ pub fn values_are_written_in_form<K: Asn1Type, C: DecidedSet, TR: DecidedTime>()
     ensures bits { IsWrittenInForm ⟦<BitStringAsn1 as DerForm>⟧.form }
     ensures identifiers { IsWrittenInForm ⟦<ObjectIdentifierAsn1 as DerForm>⟧.form }
     ensures dates { IsWrittenInForm ⟦<DateAsn1<K, TR> as DerForm>⟧.form }
+{}
+
+/// No spelling of one of these types nests a reader.
+pub fn simple_values_nest_no_reader<K: Asn1Type, C: DecidedSet, TR: DecidedTime>()
+    ensures strings { NestsAtMost 0 ⟦<StringAsn1<K, C> as DerForm>⟧.form }
+    ensures bits { NestsAtMost 0 ⟦<BitStringAsn1 as DerForm>⟧.form }
+    ensures identifiers { NestsAtMost 0 ⟦<ObjectIdentifierAsn1 as DerForm>⟧.form }
+    ensures dates { NestsAtMost 0 ⟦<DateAsn1<K, TR> as DerForm>⟧.form }
 {}

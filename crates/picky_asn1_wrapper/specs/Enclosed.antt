@@ -32,6 +32,7 @@ abbrev pub enclosed_form : {X : Type 0} → Tag → Form X → Form X
 enclosed_form tag f = record {
   in_form = f.in_form;
   Spells = SpellsEnclosed tag f.Spells;
+  height = λ s x p. 1 + f.height p.contents x p.inner;
   Encodes = SpellsEnclosed tag f.Encodes;
   encoding = λ x. value_of tag.0 (f.encoding x);
   Refused = f.Refused;
@@ -54,6 +55,7 @@ abbrev pub bits_form : {X : Type 0} → Tag → Form X → Form X
 bits_form tag f = record {
   in_form = f.in_form;
   Spells = SpellsBits tag f.Spells;
+  height = λ s x p. 1 + f.height p.contents x p.inner;
   Encodes = SpellsBits tag f.Encodes;
   encoding = λ x. value_of tag.0 (0 ∷ f.encoding x);
   Refused = f.Refused;

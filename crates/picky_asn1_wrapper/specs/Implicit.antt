@@ -21,6 +21,7 @@ abbrev pub implicit_form : {X : Type 0} → Tag → Tag → Form X → Form X
 implicit_form outer inner f = record {
   in_form = f.in_form;
   Spells = SpellsImplicit outer f.Spells;
+  height = λ s x p. f.height p.spelling x p.spelled;
   Encodes = SpellsImplicit outer f.Encodes;
   encoding = λ x. outer.0 ∷ drop 1 (f.encoding x);
   Refused = f.Refused;

@@ -1,8 +1,8 @@
 //! What is proved of wrappers beside their calls.
-ghost use Rattle.std.specs.Prelude.{◌≡◌, ◌↔◌, Some, IsTrue, map};
+ghost use Rattle.std.specs.Prelude.{◌≡◌, ◌↔◌, ℕ, ◌+◌, Some, IsTrue, map};
 ghost use Rattle.std.specs.Cmp.Lexicographic.{pointwise};
 ghost use Rattle.std.specs.declared.cmp.Ordering.TheVariants.{Equal};
-ghost use Rattle.picky_der.specs.Form.{IsWrittenInForm};
+ghost use Rattle.picky_der.specs.Form.{IsWrittenInForm, NestsAtMost};
 
 use crate::container::{BitStringAsn1Container, OctetStringAsn1Container};
 use crate::equal_meaning::EqualMeaning;
@@ -170,4 +170,24 @@ pub fn written_tags_are_in_form<const N: u8, T: DerTagged>()
 /// A header that is written is in form.
 pub fn written_headers_are_in_form<T: Asn1Type>()
     ensures { IsWrittenInForm ⟦<HeaderOnly<T> as DerForm>⟧.form }
+{}
+
+/// Where no spelling of a type's values nests more readers than a number, none of its lists and containers nests more than
+/// one beyond it.
+pub fn wrappers_nest_one_reader_more<T: DerForm>()
+    ensures sequence { (most : ℕ) → NestsAtMost most T.form → NestsAtMost (1 + most) ⟦<Asn1SequenceOf<T> as DerForm>⟧.form }
+    ensures set { (most : ℕ) → NestsAtMost most T.form → NestsAtMost (1 + most) ⟦<Asn1SetOf<T> as DerForm>⟧.form }
+    ensures octets { (most : ℕ) → NestsAtMost most T.form → NestsAtMost (1 + most) ⟦<OctetStringAsn1Container<T> as DerForm>⟧.form }
+    ensures bits { (most : ℕ) → NestsAtMost most T.form → NestsAtMost (1 + most) ⟦<BitStringAsn1Container<T> as DerForm>⟧.form }
+{}
+
+/// An explicit tag nests one reader, an implicit one none.
+pub fn tags_nest_readers<const N: u8, T: DerTagged>()
+    ensures explicit { (most : ℕ) → NestsAtMost most T.form → NestsAtMost (1 + most) ⟦<ExplicitContextTag<N, T> as DerForm>⟧.form }
+    ensures implicit { (most : ℕ) → NestsAtMost most T.form → NestsAtMost most ⟦<ImplicitContextTag<N, T> as DerForm>⟧.form }
+{}
+
+/// A header nests no reader.
+pub fn headers_nest_no_reader<T: Asn1Type>()
+    ensures { NestsAtMost 0 ⟦<HeaderOnly<T> as DerForm>⟧.form }
 {}

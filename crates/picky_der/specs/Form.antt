@@ -1,10 +1,10 @@
 -- What the values of a type are as DER: which are in form, what spells them, their encodings, what is written and what is read (X.690 sections 8.1.1 and 10; the laws are own).
-use Rattle.std.specs.Prelude.{◌≡◌, ◌≢◌, ℕ, ◌%◌, ◌<◌, ◌^◌, ◌==◌, Bool, true, List, [], ◌∷◌, ◌++◌, length, Result, Ok, Err, ◌⊎◌}
+use Rattle.std.specs.Prelude.{◌≡◌, ◌≢◌, ℕ, ◌%◌, ◌<◌, ◌≤◌, ◌^◌, ◌==◌, Bool, true, List, [], ◌∷◌, ◌++◌, length, Result, Ok, Err, ◌⊎◌}
 use Rattle.picky_asn1_tag.specs.declared.tag.Tag.{Tag}
 use Rattle.picky_der.specs.declared.fault.DerError.{DerError}
 use Rattle.picky_der.specs.declared.fault.DerError.TheVariants.{Truncated, BadValue, TooDeep, OutOfMemory}
 use Rattle.picky_der.specs.Length.{TailIsBytes, value_of}
-use Rattle.picky_der.specs.Reading.{◌>>=◌, end_at}
+use Rattle.picky_der.specs.Reading.{◌>>=◌, within, end_at}
 
 -- ---- one value
 
@@ -33,6 +33,11 @@ pub record Form (X : Type 0) : Type 1 where
   pub in_form : X → Type 0
   -- the bytes are a spelling of the value
   pub Spells : List ℕ → X → Type 0
+  -- How many readers are nested in one another, in the reader that stands at a spelling, to read it: none where the contents
+  -- are read as they stand, or the value is kept as its bytes; one more than the greatest height among the spellings in the
+  -- contents, where a reader goes through them. It is of the spelling and not of the value, since one value may be spelled
+  -- more or less deep, as an explicit default and one that is left out.
+  pub height : (s : List ℕ) (x : X) → Spells s x → ℕ
   -- the bytes are the encoding of the value, which is written
   pub Encodes : List ℕ → X → Type 0
   -- the encoding of a value: tag, length and contents; it counts for values in form, and others that are written, whose encoding is shorter than 2^64 bytes
@@ -51,10 +56,6 @@ pub record Takes {X : Type 0} (in_form : X → Type 0) (Spells : List ℕ → X 
   pub spelled : Spells spelling x
   pub parts : bytes ≡ spelling ++ rest
 
--- reading gives this, or stops at the limit of depth
-abbrev pub GivesOrTooDeep : {Y : Type 0} → Result Y DerError → Y → Type 0
-GivesOrTooDeep read y = (read ≡ Ok y) ⊎ (read ≡ Err TooDeep)
-
 -- The laws of reading a type.
 pub record Readable {X : Type 0} (f : Form X) : Type 0 where
   -- a spelling of a value in form is one value
@@ -63,8 +64,8 @@ pub record Readable {X : Type 0} (f : Form X) : Type 0 where
   pub prefix_free : (x y : X) (s t a b : List ℕ) → f.in_form x → f.in_form y → f.Spells s x → f.Spells t y → s ++ a ≡ t ++ b → (s ≡ t) × (x ≡ y)
   -- what is read is the value in form whose spelling stands there, and reading ends just past it
   pub takes : (depth : ℕ) (bytes : List ℕ) (x : X) (rest : List ℕ) → TailIsBytes bytes → f.reading depth bytes ≡ Ok (x, rest) → Takes f.in_form f.Spells bytes x rest
-  -- where a spelling stands, reading gives its value, or stops at the limit of depth
-  pub again : (depth : ℕ) (s rest : List ℕ) (x : X) → f.in_form x → f.Spells s x → GivesOrTooDeep (f.reading depth (s ++ rest)) (x, rest)
+  -- where a spelling stands, reading gives its value, and `TooDeep` exactly where depth and height are above 256 together
+  pub again : (depth : ℕ) (s rest : List ℕ) (x : X) → f.in_form x → (p : f.Spells s x) → f.reading depth (s ++ rest) ≡ within depth (f.height s x p) (x, rest)
   -- reading takes a byte
   pub shorter : (depth : ℕ) (bytes : List ℕ) (x : X) (rest : List ℕ) → f.reading depth bytes ≡ Ok (x, rest) → length rest < length bytes
   -- `begins` holds of the first byte of every spelling
@@ -98,15 +99,23 @@ pub record Tagged {X : Type 0} (tag : Tag) (f : Form X) : Type 0 where
 
 -- ---- laws by name
 
--- What is written of a value in form is a spelling of it, and one value; where it stands, it is read back, or reading stops at the limit of depth.
+-- What is written of a value in form is a spelling of it, and one value; where it stands, it is read back as deep as its height allows.
 pub record ReadsBack {X : Type 0} (f : Form X) : Type 0 where
   pub spelled : (s : List ℕ) (x : X) → f.in_form x → f.Encodes s x → f.Spells s x
   pub one_value : (s : List ℕ) (x : X) → f.Encodes s x → IsOneValue s
-  pub read : (depth : ℕ) (s rest : List ℕ) (x : X) → f.in_form x → f.Encodes s x → GivesOrTooDeep (f.reading depth (s ++ rest)) (x, rest)
+  pub read : (depth : ℕ) (s rest : List ℕ) (x : X) (g : f.in_form x) (e : f.Encodes s x) → f.reading depth (s ++ rest) ≡ within depth (f.height s x (spelled s x g e)) (x, rest)
 
 -- each value that is written is in form
 abbrev pub IsWrittenInForm : {X : Type 0} → Form X → Type 0
 IsWrittenInForm {X = X} f = (s : List ℕ) (x : X) → f.Encodes s x → f.in_form x
+
+-- where a spelling stands, it is read exactly as deep as its height allows
+abbrev pub IsReadWithinHeight : {X : Type 0} → Form X → Type 0
+IsReadWithinHeight {X = X} f = (depth : ℕ) (s rest : List ℕ) (x : X) → f.in_form x → (p : f.Spells s x) → f.reading depth (s ++ rest) ≡ within depth (f.height s x p) (x, rest)
+
+-- no spelling has a greater height than this
+abbrev pub NestsAtMost : {X : Type 0} → ℕ → Form X → Type 0
+NestsAtMost {X = X} most f = (s : List ℕ) (x : X) (p : f.Spells s x) → f.height s x p ≤ most
 
 -- a proper prefix of a spelling lacks a byte
 abbrev pub CutIsTruncated : {X : Type 0} → Form X → Type 0
@@ -133,12 +142,12 @@ abbrev pub Writes : (List ℕ → Type 0) → Type 0 → Result (Unit {0}) DerEr
 Writes Encodes Refused (Ok _) old new = Appends Encodes old new
 Writes Encodes Refused (Err e) old new = ((e ≡ OutOfMemory) ⊎ ((e ≡ BadValue) × Refused)) × (new ≡ old)
 
--- The value was answered, or the answer is one that the value can't help.
-abbrev pub OkUnlessDeep : {X Y : Type 0} → (X → Y) → Result X DerError → Y → Type 0
-OkUnlessDeep view (Ok x) y = view x ≡ y
-OkUnlessDeep view (Err OutOfMemory) y = Unit {0}
-OkUnlessDeep view (Err TooDeep) y = Unit {0}
-OkUnlessDeep view (Err _) y = ⊥
+-- A value whose spelling has this height was read by a reader nested in none: it was answered, or the height is above 256 and the fault is `TooDeep`, or memory ran out.
+abbrev pub OkUnlessDeep : {X Y : Type 0} → (X → Y) → ℕ → Result X DerError → Y → Type 0
+OkUnlessDeep view height (Ok x) y = (view x ≡ y) × (height ≤ 256)
+OkUnlessDeep view height (Err TooDeep) y = 256 < height
+OkUnlessDeep view height (Err OutOfMemory) y = Unit {0}
+OkUnlessDeep view height (Err _) y = ⊥
 
 -- What is seen of the result, where there is one, is this.
 abbrev pub OkIs : {X Y : Type 0} → (X → Y) → Result X DerError → Y → Type 0

@@ -1,4 +1,3 @@
-pub mod Algorithm
 pub mod Form
 pub mod Identifier
 pub mod Length

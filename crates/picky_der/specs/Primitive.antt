@@ -43,6 +43,7 @@ abbrev pub primitive_form : {X : Type 0} → Tag → Contents X → Form X
 primitive_form tag k = record {
   in_form = k.in_form;
   Spells = SpellsPrimitive tag k.Octets;
+  height = λ _ _ _. 0;
   Encodes = λ s x. k.in_form x × SpellsPrimitive tag k.Octets s x;
   encoding = λ x. value_of tag.0 (k.octets x);
   Refused = λ x. ¬ k.in_form x;

@@ -13,6 +13,7 @@ abbrev pub raw_form : Form (List ℕ)
 raw_form = record {
   in_form = IsOneValue;
   Spells = λ s x. s ≡ x;
+  height = λ _ _ _. 0;
   Encodes = λ s x. IsOneValue x × (s ≡ x);
   encoding = λ x. x;
   Refused = λ x. ¬ IsOneValue x;

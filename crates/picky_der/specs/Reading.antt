@@ -1,5 +1,5 @@
 -- What reading gives: a value and the bytes after it, or the fault at the first bad place (X.690 sections 8.1.2, 8.1.3 and 10.1; the order of faults is own).
-use Rattle.std.specs.Prelude.{◌≡◌, ℕ, ◌-◌, ◌%◌, ◌==◌, ◌||◌, List, [], ◌∷◌, length, take, drop, if◌then◌else◌, nat_lt, Result, Ok, Err, slice_index}
+use Rattle.std.specs.Prelude.{◌≡◌, ℕ, ◌-◌, ◌%◌, ◌==◌, ◌||◌, List, [], ◌∷◌, length, take, drop, if◌then◌else◌, nat_lt, nat_le, Result, Ok, Err, slice_index}
 use Rattle.picky_asn1_bits.specs.Integer.{unsigned_of}
 use Rattle.picky_asn1_tag.specs.declared.tag.Tag.{Tag}
 use Rattle.picky_der.specs.declared.fault.DerError.{DerError}
@@ -52,6 +52,11 @@ raw_at (b ∷ bs) = after_tag b bs >>= λ v. Ok (take (length (b ∷ bs) - lengt
 -- a reader nested in another is allowed
 unfoldable pub deeper : {A : Type 0} → ℕ → A → Result A DerError
 deeper depth x = if nat_lt depth 256 then Ok x else Err TooDeep
+
+-- A value of this height, read at this depth: its height is at most what the depth leaves of 256, else it is `TooDeep`. A reader
+-- is at depth 256 at most, so it reads the value exactly where depth and height are at most 256 together.
+unfoldable pub within : {A : Type 0} → ℕ → ℕ → A → Result A DerError
+within depth height x = if nat_le height (256 - depth) then Ok x else Err TooDeep
 
 -- the contents of a value of this tag, for a reader nested one deeper
 unfoldable pub nested_at : Tag → ℕ → List ℕ → Result (List ℕ × List ℕ) DerError

@@ -1,5 +1,5 @@
 -- What the laws of the types rest on.
-pub mod Algorithm
+pub mod Depth
 pub mod Headers
 pub mod Identifier
 pub mod Lengths

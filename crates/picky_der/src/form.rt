@@ -87,11 +87,12 @@ fn all<T: DerRead + Drop>(alloc: Global, bytes: &[u8]) -> Result<T, DerError>
 
 /// The one value that the bytes spell, all of them.
 ///
-/// A refusal is the fault at the first bad place, `TrailingBytes` where bytes follow the value, or `OutOfMemory`.
+/// A refusal is the fault at the first bad place, `TrailingBytes` where bytes follow the value, or `OutOfMemory`. A spelling of
+/// a value is `TooDeep` exactly where it nests more than 256 readers.
 pub fn from_bytes<T: DerRead + Drop>(alloc: Global, bytes: &[u8]) -> Result<T, DerError>
     ensures first { Gives T.stands_for result (whole T.form.reading bytes.now) }
     ensures found { IfOk result (λ x. T.form.in_form (T.stands_for x) × T.form.Spells bytes.now (T.stands_for x)) }
-    ensures every { (x : T.Abstract) → T.form.in_form x → T.form.Spells bytes.now x → OkUnlessDeep T.stands_for result x }
+    ensures every { (x : T.Abstract) → T.form.in_form x → (p : T.form.Spells bytes.now x) → OkUnlessDeep T.stands_for (T.form.height bytes.now x p) result x }
 {
     all(alloc, bytes)
 }

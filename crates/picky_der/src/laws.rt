@@ -2,9 +2,8 @@
 ghost use Rattle.std.specs.Prelude.{◌≡◌, ◌↔◌, ℕ, List, IsTrue};
 ghost use Rattle.std.specs.declared.cmp.Ordering.TheVariants.{Equal};
 ghost use Rattle.picky_der.specs.Length.{SpellsLength, length_of};
-ghost use Rattle.picky_der.specs.Form.{ReadsBack, IsWrittenInForm, CutIsTruncated, FaultsStay};
+ghost use Rattle.picky_der.specs.Form.{ReadsBack, IsWrittenInForm, IsReadWithinHeight, NestsAtMost, CutIsTruncated, FaultsStay};
 
-use crate::algorithm::AlgorithmIdentifier;
 use crate::form::{DerForm, DerRead, DerWrite};
 use crate::raw::Asn1RawDer;
 use crate::reader::TagPeeker;
@@ -25,7 +24,7 @@ pub fn values_of_one_meaning_are_written_alike<T: DerWrite>(value: &T, other: &T
 {}
 
 /// What is written of a value in form is a spelling of it and one value, and where it stands it is read back, whatever
-/// bytes follow, but at the limit of depth.
+/// bytes follow: a value of height h at a depth of at most 256 - h, and nowhere deeper.
 pub fn what_is_written_reads_back<T: DerRead + DerWrite>()
     ensures { ReadsBack T.form }
 {}
@@ -44,7 +43,28 @@ pub fn values_are_written_in_form()
     ensures octets { IsWrittenInForm ⟦<OctetStringAsn1 as DerForm>⟧.form }
     ensures identifier { IsWrittenInForm ⟦<ObjectIdentifier as DerForm>⟧.form }
     ensures raw { IsWrittenInForm ⟦<Asn1RawDer as DerForm>⟧.form }
-    ensures algorithm { IsWrittenInForm ⟦<AlgorithmIdentifier as DerForm>⟧.form }
+{}
+
+/// Where a spelling of a value in form stands, it is read exactly where depth and height are at most 256 together; above that
+/// it is `TooDeep`.
+pub fn values_are_read_within_their_height<T: DerRead>()
+    ensures { IsReadWithinHeight T.form }
+{}
+
+/// No spelling of one of these types nests a reader.
+pub fn simple_values_nest_no_reader()
+    ensures null { NestsAtMost 0 ⟦<() as DerForm>⟧.form }
+    ensures boolean { NestsAtMost 0 ⟦<bool as DerForm>⟧.form }
+    ensures u8_ { NestsAtMost 0 ⟦<u8 as DerForm>⟧.form }
+    ensures u16_ { NestsAtMost 0 ⟦<u16 as DerForm>⟧.form }
+    ensures u32_ { NestsAtMost 0 ⟦<u32 as DerForm>⟧.form }
+    ensures u64_ { NestsAtMost 0 ⟦<u64 as DerForm>⟧.form }
+    ensures u128_ { NestsAtMost 0 ⟦<u128 as DerForm>⟧.form }
+    ensures text { NestsAtMost 0 ⟦<String as DerForm>⟧.form }
+    ensures integer { NestsAtMost 0 ⟦<IntegerAsn1 as DerForm>⟧.form }
+    ensures octets { NestsAtMost 0 ⟦<OctetStringAsn1 as DerForm>⟧.form }
+    ensures identifier { NestsAtMost 0 ⟦<ObjectIdentifier as DerForm>⟧.form }
+    ensures raw { NestsAtMost 0 ⟦<Asn1RawDer as DerForm>⟧.form }
 {}
 
 /// A proper prefix of a spelling of a value is `Truncated`.

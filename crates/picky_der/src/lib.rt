@@ -1,7 +1,6 @@
 //! DER (X.690): lengths, a reader, and the traits of values that are written and read.
 #![tactic(auto)]
 
-mod algorithm;
 mod fault;
 mod form;
 mod identifier;
@@ -14,7 +13,6 @@ mod raw;
 mod reader;
 mod writing;
 
-pub use algorithm::AlgorithmIdentifier;
 pub use fault::DerError;
 pub use form::{DerForm, DerRead, DerTagged, DerWrite, from_bytes, to_vec};
 pub use raw::Asn1RawDer;

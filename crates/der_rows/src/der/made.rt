@@ -8,7 +8,8 @@ use crate::der::values::written;
 use anyhow::{Result, bail};
 use picky_asn1_bits::IntegerAsn1;
 use picky_asn1_oid::ObjectIdentifier;
-use picky_der::{AlgorithmIdentifier, Asn1RawDer, DerError};
+use picky_der::{Asn1RawDer, DerError};
+use picky_fields::AlgorithmIdentifier;
 use rows::{Answer, Words};
 use std::alloc::Global;
 

@@ -5,10 +5,12 @@
 //     der.comes_back TYPE BYTES     whether the bytes are read as a value that is written as them
 //     der.says TYPE BYTES           the text of the fault
 //     der.equal TYPE BYTES BYTES    whether the two values are equal
+//     der.nested TYPE BYTES COUNT   the same as `read` of the value in so many SEQUENCEs, each the whole contents of the one
+//                                   before it, by a reader nested in as many others
 use crate::der::faults::refusal;
 use anyhow::{Result, bail};
 use picky_asn1_bits::{IntegerAsn1, OctetStringAsn1};
-use picky_asn1_tag::CopyIn;
+use picky_asn1_tag::{CopyIn, Tag};
 use picky_asn1_wrapper::{
     Asn1SequenceOf, Asn1SetOf, BitStringAsn1, BitStringAsn1Container, BmpStringAsn1,
     ExplicitContextTag0, ExplicitContextTag1, GeneralStringAsn1, GeneralizedTimeAsn1, HeaderOnly,
@@ -16,7 +18,8 @@ use picky_asn1_wrapper::{
     ObjectIdentifierAsn1, OctetStringAsn1Container, PrintableStringAsn1, UtcTimeAsn1,
     Utf8StringAsn1,
 };
-use picky_der::{AlgorithmIdentifier, Asn1RawDer, DerError, DerRead, DerWrite, from_bytes, to_vec};
+use picky_der::{Asn1RawDer, DerError, DerRead, DerReader, DerWrite, from_bytes, to_vec};
+use picky_fields::AlgorithmIdentifier;
 use rows::{Answer, Words};
 use std::alloc::Global;
 
@@ -93,6 +96,7 @@ fn value<T: DerRead + DerWrite + CopyIn + PartialEq + Drop>(
         "comes_back" => comes_back::<T>(alloc, &bytes),
         "says" => says::<T>(alloc, &bytes),
         "equal" => equal::<T>(alloc, &bytes, &words.bytes(alloc)?),
+        "nested" => nested::<T>(alloc, &bytes, words.size()?),
         _ => bail!("no such call"),
     }
 }
@@ -147,4 +151,19 @@ fn equal<T: DerRead + PartialEq + Drop>(
     let value: T = from_bytes(alloc, bytes)?;
     let other: T = from_bytes(alloc, other)?;
     Ok(Answer::Truth(value == other))
+}
+
+fn nested<T: DerRead + DerWrite + CopyIn + PartialEq + Drop>(
+    alloc: Global,
+    bytes: &[u8],
+    count: usize,
+) -> Result<Answer> {
+    let mut reader = DerReader::new(bytes);
+    for _ in 0..count {
+        reader = reader.nested(Tag::SEQUENCE)?;
+    }
+    match T::read_der(alloc, &mut reader) {
+        Ok(value) => written(alloc, &value),
+        Err(fault) => refusal(fault),
+    }
 }

@@ -4,13 +4,14 @@ use Rattle.picky_asn1_tag.specs.declared.tag.Tag.{Tag}
 use Rattle.picky_der.specs.declared.fault.DerError.{DerError}
 use Rattle.picky_der.specs.declared.fault.DerError.TheVariants.{Truncated}
 use Rattle.picky_der.specs.Length.{IsBytes, TailIsBytes, value_of}
-use Rattle.picky_der.specs.Reading.{◌>>=◌, nested_at, nested_bits_at, end_at}
-use Rattle.picky_der.specs.Form.{Form, Readable, Writable, Tagged, IsValue, Takes, GivesOrTooDeep}
+use Rattle.picky_der.specs.Reading.{◌>>=◌, within, nested_at, nested_bits_at, end_at}
+use Rattle.picky_der.specs.Form.{Form, Readable, Writable, Tagged, IsValue, Takes, NestsAtMost}
 use Rattle.picky_der.specs.laws.Steps.{ok_is, bind_ok, pair_fst, pair_snd}
+use Rattle.picky_der.specs.laws.Depth.{within_inner}
 use Rattle.picky_der.specs.laws.Lengths.{IsBytes-rest, TailIsBytes-of}
-use Rattle.picky_der.specs.laws.Headers.{IsValue-same, IsValue-of, length-value_of, IsBytes-contents, BeginsBy-value, nested_again, nested_takes, nested_shorter, nested_bits_again, nested_bits_takes, nested_bits_shorter, end_takes, end_again, eqb_same}
+use Rattle.picky_der.specs.laws.Headers.{IsValue-same, IsValue-of, length-value_of, IsBytes-contents, BeginsBy-value, nested_again, nested_takes, nested_shorter, nested_bits_again, nested_bits_takes, nested_bits_shorter, end_takes, eqb_same}
 use Rattle.picky_der.specs.laws.Prefixes.{Stays, bind_err, kept_fault, then_stays, nested_goes_on, nested_stays, nested_cut, nested_bits_goes_on, nested_bits_stays, nested_bits_cut}
-use Rattle.picky_der.specs.laws.Whole.{taken_whole, again_alone}
+use Rattle.picky_der.specs.laws.Whole.{taken_whole, alone_made}
 use Rattle.picky_asn1_wrapper.specs.Enclosed.{alone_in, enclosed_at, SpellsEnclosed, enclosed_form, bits_at, SpellsBits, bits_form}
 
 module _ {X : Type 0} (f : Form X) (law : Readable f) where
@@ -25,12 +26,8 @@ module _ {X : Type 0} (f : Form X) (law : Readable f) where
       let whole = taken_whole f law c k.spelling w.0.1 w.0.0 x k.formed k.spelled k.parts (end_takes w.0.1 n.0 n.1) (pair_fst _ _ same) in
       (whole.0, whole.1, pair_snd _ _ same)
 
-  alone_again : (depth : ℕ) (c rest : List ℕ) (x : X) → f.in_form x → f.Spells c x → GivesOrTooDeep (alone_in (f.reading depth) (c, rest)) (x, rest)
-  alone_again depth c rest x formed p =
-      elim (again_alone f law depth c x formed p) [
-        | inl g ↦ inl (rw (g, end_again) refl)
-        | inr g ↦ inr (rw g refl)
-      ]
+  alone_again : (depth : ℕ) (c rest : List ℕ) (x : X) → f.in_form x → (p : f.Spells c x) → alone_in (f.reading depth) (c, rest) ≡ within depth (f.height c x p) (x, rest)
+  alone_again depth c rest x formed p = alone_made f law depth c x (λ y. (y, rest)) formed p
 
   -- a fault in the contents is the same whatever bytes are behind
   alone_kept : (depth : ℕ) (c rest other : List ℕ) (e : DerError) → alone_in (f.reading depth) (c, rest) ≡ Err e → alone_in (f.reading depth) (c, other) ≡ Err e
@@ -59,13 +56,11 @@ module _ {X : Type 0} (f : Form X) (law : Readable f) where
         let k = alone_takes (depth + 1) v.0.0 v.0.1 x rest (IsBytes-contents tag.0 v.0.0 v.0.1 (subst TailIsBytes t.1 fits)) v.2 in
         enclosed_taken bytes v.0.0 v.0.1 rest x t.0 t.1 k.0 k.1 k.2
 
-    enclosed_again : (depth : ℕ) (s rest : List ℕ) (x : X) → f.in_form x → SpellsEnclosed tag f.Spells s x → GivesOrTooDeep (enclosed_at tag f.reading depth (s ++ rest)) (x, rest)
+    enclosed_again : (depth : ℕ) (s rest : List ℕ) (x : X) → f.in_form x → (p : SpellsEnclosed tag f.Spells s x) → enclosed_at tag f.reading depth (s ++ rest) ≡ within depth (1 + f.height p.contents x p.inner) (x, rest)
     unfolding enclosed_at
     enclosed_again depth s rest x formed p =
-        elim (nested_again tag depth p.contents s rest p.value) [
-          | inl e ↦ rw e (alone_again (depth + 1) p.contents rest x formed p.inner)
-          | inr e ↦ inr (rw e refl)
-        ]
+        rw (nested_again tag depth p.contents s rest p.value)
+        (within_inner depth (f.height p.contents x p.inner) (p.contents, rest) (x, rest) (λ v. alone_in (f.reading (depth + 1)) v) (alone_again (depth + 1) p.contents rest x formed p.inner))
 
     enclosed_shorter : (depth : ℕ) (bytes : List ℕ) (x : X) (rest : List ℕ) → enclosed_at tag f.reading depth bytes ≡ Ok (x, rest) → length rest < length bytes
     unfolding enclosed_at
@@ -112,13 +107,11 @@ module _ {X : Type 0} (f : Form X) (law : Readable f) where
         let k = alone_takes (depth + 1) v.0.0 v.0.1 x rest (IsBytes-rest 0 v.0.0 (IsBytes-contents tag.0 (0 ∷ v.0.0) v.0.1 (subst TailIsBytes t.1 fits))) v.2 in
         bits_taken bytes v.0.0 v.0.1 rest x t.0 t.1 k.0 k.1 k.2
 
-    bits_again : (depth : ℕ) (s rest : List ℕ) (x : X) → f.in_form x → SpellsBits tag f.Spells s x → GivesOrTooDeep (bits_at tag f.reading depth (s ++ rest)) (x, rest)
+    bits_again : (depth : ℕ) (s rest : List ℕ) (x : X) → f.in_form x → (p : SpellsBits tag f.Spells s x) → bits_at tag f.reading depth (s ++ rest) ≡ within depth (1 + f.height p.contents x p.inner) (x, rest)
     unfolding bits_at
     bits_again depth s rest x formed p =
-        elim (nested_bits_again tag depth p.contents s rest p.value) [
-          | inl e ↦ rw e (alone_again (depth + 1) p.contents rest x formed p.inner)
-          | inr e ↦ inr (rw e refl)
-        ]
+        rw (nested_bits_again tag depth p.contents s rest p.value)
+        (within_inner depth (f.height p.contents x p.inner) (p.contents, rest) (x, rest) (λ v. alone_in (f.reading (depth + 1)) v) (alone_again (depth + 1) p.contents rest x formed p.inner))
 
     bits_shorter : (depth : ℕ) (bytes : List ℕ) (x : X) (rest : List ℕ) → bits_at tag f.reading depth bytes ≡ Ok (x, rest) → length rest < length bytes
     unfolding bits_at
@@ -197,3 +190,12 @@ explicit_one_byte n h = omega arith
 
 pub implicit_one_byte : (n : ℕ) → (128 + n % 16) % 32 ≢ 31
 implicit_one_byte n h = omega arith
+
+-- ---- heights
+
+module _ {X : Type 0} (f : Form X) (most : ℕ) (inner : NestsAtMost most f) (tag : Tag) where
+  pub enclosed_nests : NestsAtMost (1 + most) (enclosed_form tag f)
+  enclosed_nests s x p = omega (arith, inner p.contents x p.inner)
+
+  pub bits_nests : NestsAtMost (1 + most) (bits_form tag f)
+  bits_nests s x p = omega (arith, inner p.contents x p.inner)

@@ -1,13 +1,14 @@
 -- The laws of one value under another tag.
-use Rattle.std.proofs.Common.{◌≡◌, ◌≢◌, ℕ, ◌%◌, ◌^◌, ◌<◌, eqb, List, [], ◌∷◌, ◌++◌, length, drop, Ok, Err, refl, sym, ap, subst, ◌∙◌, arith, inl, inr}
+use Rattle.std.proofs.Common.{◌≡◌, ◌≢◌, ℕ, ◌%◌, ◌^◌, ◌<◌, eqb, List, [], ◌∷◌, ◌++◌, length, drop, Ok, Err, refl, sym, ap, subst, ◌∙◌, arith}
 use Rattle.std.proofs.lemmas.Bool.{eqb-true}
 use Rattle.std.proofs.lemmas.List.{append-nil, length-drop}
 use Rattle.picky_asn1_tag.specs.declared.tag.Tag.{Tag}
 use Rattle.picky_der.specs.declared.fault.DerError.TheVariants.{Truncated}
 use Rattle.picky_der.specs.Length.{TailIsBytes, length_of, value_of}
-use Rattle.picky_der.specs.Reading.{◌>>=◌, value_at, raw_at}
-use Rattle.picky_der.specs.Form.{Form, Readable, Writable, Appends, Tagged, IsValue, IsOneValue, BeginsBy, Takes, GivesOrTooDeep}
+use Rattle.picky_der.specs.Reading.{◌>>=◌, within, value_at, raw_at}
+use Rattle.picky_der.specs.Form.{Form, Readable, Writable, Appends, Tagged, IsValue, IsOneValue, BeginsBy, Takes}
 use Rattle.picky_der.specs.laws.Steps.{ok_is, bind_ok, pair_fst, pair_snd}
+use Rattle.picky_der.specs.laws.Depth.{within_next}
 use Rattle.picky_der.specs.laws.Lengths.{IsBytes-front}
 use Rattle.picky_der.specs.laws.Headers.{IsValue-same, IsValue-again, value_takes, value_shorter, raw_again, eqb_same}
 use Rattle.picky_der.specs.laws.Prefixes.{Stays, kept_fault, then_stays, value_goes_on, value_stays, value_cut}
@@ -69,15 +70,13 @@ module _ {X : Type 0} (f : Form X) (law : Readable f) (outer inner : Tag) (one_b
           subst (λ (p : X × List ℕ). Takes f.in_form (SpellsImplicit outer f.Spells) bytes p.0 p.1) same
           (implicit_taken bytes v.0.0 w.0.1 w.0.0 k v.0.1 t.0 inner_one t.1)
 
-      implicit_again : (depth : ℕ) (s rest : List ℕ) (x : X) → f.in_form x → SpellsImplicit outer f.Spells s x → GivesOrTooDeep (implicit_at outer inner f.reading depth (s ++ rest)) (x, rest)
+      implicit_again : (depth : ℕ) (s rest : List ℕ) (x : X) → f.in_form x → (p : SpellsImplicit outer f.Spells s x) → implicit_at outer inner f.reading depth (s ++ rest) ≡ within depth (f.height p.spelling x p.spelled) (x, rest)
       unfolding implicit_at
       implicit_again depth s rest x formed p =
           let r = retagged s x formed p in
-          let h : GivesOrTooDeep {Y = X × List ℕ} (f.reading depth (value_of inner.0 r.0)) (x, []) = again_alone f law depth (value_of inner.0 r.0) x formed (subst (λ (t : List ℕ). f.Spells t x) r.2 p.spelled) in
-          rw (IsValue-again outer r.0 s rest r.1) (elim h [
-            | inl g ↦ inl (rw g refl)
-            | inr g ↦ inr (rw g refl)
-          ])
+          let height = f.height p.spelling x p.spelled in
+          let own : f.reading depth (value_of inner.0 r.0) ≡ within depth height (x, []) = ap (f.reading depth) (sym r.2) ∙ again_alone f law depth p.spelling x formed p.spelled in
+          rw (IsValue-again outer r.0 s rest r.1, own) (within_next depth height (x, []) (x, rest) (λ v. Ok (v.0, rest)) refl)
 
       implicit_shorter : (depth : ℕ) (bytes : List ℕ) (x : X) (rest : List ℕ) → implicit_at outer inner f.reading depth bytes ≡ Ok (x, rest) → length rest < length bytes
       unfolding implicit_at

@@ -1,17 +1,19 @@
 -- The laws of SEQUENCE OF and SET OF.
 use Rattle.std.proofs.Common.{◌≡◌, ◌≢◌, ℕ, zero, suc, ◌+◌, ◌%◌, ◌^◌, ◌<◌, ◌≤◌, eqb, List, [], ◌∷◌, ◌++◌, length, Ok, Err, refl, sym, ap, subst, ◌∙◌, arith, inl, inr}
+use Rattle.std.proofs.Math.Nat.{max-le}
 use Rattle.std.specs.List.{flat_map}
 use Rattle.std.proofs.lemmas.List.{length-append, append_cancel_left}
 use Rattle.picky_asn1_tag.specs.declared.tag.Tag.{Tag}
 use Rattle.picky_der.specs.declared.fault.DerError.TheVariants.{Truncated}
 use Rattle.picky_der.specs.Length.{IsBytes, TailIsBytes, value_of}
-use Rattle.picky_der.specs.Reading.{◌>>=◌, nested_at}
-use Rattle.picky_der.specs.Form.{Form, Readable, Writable, Tagged, IsValue, BeginsBy, Takes, GivesOrTooDeep, IsWrittenInForm}
+use Rattle.picky_der.specs.Reading.{◌>>=◌, within, nested_at}
+use Rattle.picky_der.specs.Form.{Form, Readable, Writable, Tagged, IsValue, BeginsBy, Takes, IsWrittenInForm, NestsAtMost}
 use Rattle.picky_der.specs.laws.Steps.{ok_is, bind_ok, pair_snd}
+use Rattle.picky_der.specs.laws.Depth.{within_none, within_next, within_then, within_inner}
 use Rattle.picky_der.specs.laws.Lengths.{IsBytes-after, TailIsBytes-of}
 use Rattle.picky_der.specs.laws.Headers.{IsValue-same, IsValue-of, length-value_of, IsBytes-contents, BeginsBy-value, nested_again, nested_takes, nested_shorter, eqb_same}
 use Rattle.picky_der.specs.laws.Prefixes.{Stays, kept_fault, then_stays, nested_goes_on, nested_stays, nested_cut}
-use Rattle.picky_asn1_wrapper.specs.Lists.{SpellsAll, AllFormed, SomeRefused, items_at, list_at, SpellsList, list_form}
+use Rattle.picky_asn1_wrapper.specs.Lists.{SpellsAll, greatest, AllFormed, SomeRefused, items_at, list_at, SpellsList, list_form}
 
 some_byte : (test : ℕ → _) (s : List ℕ) → BeginsBy test s → 0 < length s
 some_byte test [] h = absurd h
@@ -31,21 +33,21 @@ module _ {X : Type 0} (f : Form X) (law : Readable f) where
       let k = items_takes depth most v.0.1 w.0 rest-fits w.1 in
       subst (λ (ys : List X). AllFormed f.in_form ys × SpellsAll f.Spells (b ∷ bs) ys) (ok_is (v.0.0 ∷ w.0) xs w.2) ((t.formed, k.0), (t.spelling, v.0.1, t.parts, t.spelled, k.1))
 
-  items_again : (depth : ℕ) (most : ℕ) (bytes : List ℕ) (xs : List X) → length bytes ≤ most → AllFormed f.in_form xs → SpellsAll f.Spells bytes xs → GivesOrTooDeep (items_at (f.reading depth) most bytes) xs
-  items_again depth most bytes [] long formed spelled = rw spelled (inl refl)
+  items_again : (depth : ℕ) (most : ℕ) (bytes : List ℕ) (xs : List X) → length bytes ≤ most → AllFormed f.in_form xs → (p : SpellsAll f.Spells bytes xs) → items_at (f.reading depth) most bytes ≡ within depth (greatest f.height bytes xs p) xs
+  items_again depth most bytes [] long formed spelled = rw spelled (sym (within_none depth []))
   items_again depth most [] (x ∷ xs) long formed spelled = absurd (let some = some_byte f.begins spelled.0 (law.first spelled.0 x formed.0 spelled.3) in omega (arith, length-append spelled.0 spelled.1, ap length spelled.2))
   items_again depth zero (b ∷ bs) (x ∷ xs) long formed spelled = absurd (omega arith)
   items_again depth (suc most) (b ∷ bs) (x ∷ xs) long formed spelled =
       let one = spelled.0 in
       let more = spelled.1 in
       let some = some_byte f.begins one (law.first one x formed.0 spelled.3) in
-      let h : GivesOrTooDeep {Y = X × List ℕ} (f.reading depth (b ∷ bs)) (x, more) = rw (← spelled.2) at (law.again depth one more x formed.0 spelled.3) in
+      let height = f.height one x spelled.3 in
+      let heights = greatest f.height more xs spelled.4 in
+      let h : f.reading depth (b ∷ bs) ≡ within depth height (x, more) = ap (f.reading depth) spelled.2 ∙ law.again depth one more x formed.0 spelled.3 in
       let shorter : length more ≤ most = omega (arith, length-append one more, ap length spelled.2) in
-      let k = items_again depth most more xs shorter formed.1 spelled.4 in
-      elim h [
-        | inl e ↦ rw e (elim k [ inl g ↦ inl (rw g refl) | inr g ↦ inr (rw g refl) ])
-        | inr e ↦ inr (rw e refl)
-      ]
+      let k : (items_at (f.reading depth) most more >>= λ ys. Ok (x ∷ ys)) ≡ within depth heights (x ∷ xs) =
+      rw (items_again depth most more xs shorter formed.1 spelled.4) (within_next depth heights xs (x ∷ xs) (λ ys. Ok (x ∷ ys)) refl) in
+      rw h (within_then depth height heights (x, more) (x ∷ xs) (λ v. items_at (f.reading depth) most v.1 >>= λ ys. Ok (v.0 ∷ ys)) k)
 
   items_same : (xs ys : List X) (s t : List ℕ) → s ≡ t → AllFormed f.in_form xs → AllFormed f.in_form ys → SpellsAll f.Spells s xs → SpellsAll f.Spells t ys → xs ≡ ys
   items_same [] [] s t e h g p q = refl
@@ -74,13 +76,15 @@ module _ {X : Type 0} (f : Form X) (law : Readable f) where
         let k = items_takes (depth + 1) (length v.0.0) v.0.0 w.0 (IsBytes-contents tag.0 v.0.0 v.0.1 (subst TailIsBytes t.1 fits)) w.1 in
         list_taken bytes v.0.0 v.0.1 rest w.0 xs t.0 t.1 k.0 k.1 (ok_is (w.0, v.0.1) (xs, rest) w.2)
 
-    list_again : (depth : ℕ) (s rest : List ℕ) (xs : List X) → AllFormed f.in_form xs → SpellsList tag f.Spells s xs → GivesOrTooDeep (list_at tag f.reading depth (s ++ rest)) (xs, rest)
+    list_again : (depth : ℕ) (s rest : List ℕ) (xs : List X) → AllFormed f.in_form xs → (p : SpellsList tag f.Spells s xs) → list_at tag f.reading depth (s ++ rest) ≡ within depth (1 + greatest f.height p.contents xs p.items) (xs, rest)
     unfolding list_at
     list_again depth s rest xs formed p =
-        elim (nested_again tag depth p.contents s rest p.value) [
-          | inl e ↦ rw e (elim (items_again (depth + 1) (length p.contents) p.contents xs (omega arith) formed p.items) [ inl g ↦ inl (rw g refl) | inr g ↦ inr (rw g refl) ])
-          | inr e ↦ inr (rw e refl)
-        ]
+        let c = p.contents in
+        let heights = greatest f.height c xs p.items in
+        let k : (items_at (f.reading (depth + 1)) (length c) c >>= λ ys. Ok (ys, rest)) ≡ within (depth + 1) heights (xs, rest) =
+        rw (items_again (depth + 1) (length c) c xs (omega arith) formed p.items) (within_next (depth + 1) heights xs (xs, rest) (λ ys. Ok (ys, rest)) refl) in
+        rw (nested_again tag depth c s rest p.value)
+        (within_inner depth heights (c, rest) (xs, rest) (λ v. items_at (f.reading (depth + 1)) (length v.0) v.0 >>= λ ys. Ok (ys, v.1)) k)
 
     list_shorter : (depth : ℕ) (bytes : List ℕ) (xs : List X) (rest : List ℕ) → list_at tag f.reading depth bytes ≡ Ok (xs, rest) → length rest < length bytes
     unfolding list_at
@@ -171,3 +175,12 @@ module _ {X : Type 0} (f : Form X) (formed : IsWrittenInForm f) where
 
   pub list_formed : (tag : Tag) → IsWrittenInForm (list_form tag f)
   list_formed tag s xs p = items_formed p.contents xs p.items
+
+-- lists nest one reader more than the values in them
+module _ {X : Type 0} (f : Form X) (most : ℕ) (inner : NestsAtMost most f) where
+  items_nest : (s : List ℕ) (xs : List X) (p : SpellsAll f.Spells s xs) → greatest f.height s xs p ≤ most
+  items_nest s [] p = omega arith
+  items_nest s (x ∷ xs) p = max-le (inner p.0 x p.3) (items_nest p.1 xs p.4)
+
+  pub list_nests : (tag : Tag) → NestsAtMost (1 + most) (list_form tag f)
+  list_nests tag s xs p = omega (arith, items_nest p.contents xs p.items)

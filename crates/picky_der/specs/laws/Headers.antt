@@ -1,5 +1,5 @@
 -- A header and its contents are read both ways.
-use Rattle.std.proofs.Common.{◌≡◌, ◌≢◌, ℕ, ◌+◌, ◌-◌, ◌%◌, ◌^◌, ◌<◌, ◌≤◌, Bool, true, false, cond, ltb, eqb, List, [], ◌∷◌, ◌++◌, length, take, drop, Ok, Err, refl, sym, ap, subst, ◌∙◌, append_assoc, arith, inl, inr}
+use Rattle.std.proofs.Common.{◌≡◌, ◌≢◌, ℕ, ◌+◌, ◌-◌, ◌%◌, ◌^◌, ◌<◌, ◌≤◌, Bool, true, false, ltb, eqb, List, [], ◌∷◌, ◌++◌, length, take, drop, Ok, refl, sym, ap, subst, ◌∙◌, append_assoc, arith, inl, inr}
 use Rattle.std.specs.Prelude.{◌||◌, slice_index}
 use Rattle.std.proofs.lemmas.Bool.{eq-eqb, ne_eqb, eqb-true, ltb-false, le-ltb}
 use Rattle.std.proofs.lemmas.List.{take_at, drop_at, take-append-drop, length-append, length-take, length-drop}
@@ -7,9 +7,10 @@ use Rattle.picky_asn1_tag.specs.declared.tag.Tag.{Tag}
 use Rattle.picky_asn1_bits.specs.Integer.{unsigned_of}
 use Rattle.picky_der.specs.declared.fault.DerError.TheVariants.{Truncated, WrongTag, BadLength, BadValue, TooDeep}
 use Rattle.picky_der.specs.Length.{IsBytes, TailIsBytes, length_of, value_of}
-use Rattle.picky_der.specs.Reading.{◌>>=◌, length_at, long_at, contents_at, rest_at, after_tag, value_at, raw_at, deeper, nested_at, whole_bytes, nested_bits_at, end_at}
-use Rattle.picky_der.specs.Form.{IsValue, IsOneValue, BeginsBy, GivesOrTooDeep}
+use Rattle.picky_der.specs.Reading.{◌>>=◌, length_at, long_at, contents_at, rest_at, after_tag, value_at, raw_at, deeper, within, nested_at, whole_bytes, nested_bits_at, end_at}
+use Rattle.picky_der.specs.Form.{IsValue, IsOneValue, BeginsBy}
 use Rattle.picky_der.specs.laws.Steps.{chosen, ok_is, guard_ok, need_ok, bind_ok, pair_fst, pair_snd}
+use Rattle.picky_der.specs.laws.Depth.{deeper_is}
 use Rattle.picky_der.specs.laws.Lengths.{IsBytes-after, IsBytes-front, length_again, length_takes}
 
 pub eqb_same : (n : ℕ) → eqb n n ≡ true
@@ -179,13 +180,9 @@ pub deeper_ok : {A : Type 0} (depth : ℕ) (x y : A) → deeper depth x ≡ Ok y
 unfolding deeper
 deeper_ok depth x y e = ok_is x y (need_ok (ltb depth 256) TooDeep (Ok x) y e).1
 
-pub deeper_again : {A : Type 0} (depth : ℕ) (x : A) → GivesOrTooDeep (deeper depth x) x
-unfolding deeper
-deeper_again {A = A} depth x = elim (ltb depth 256) as (λ t. GivesOrTooDeep {Y = A} (cond t (Ok x) (Err TooDeep)) x) [ true ↦ inl refl | false ↦ inr refl ]
-
-pub nested_again : (tag : Tag) (depth : ℕ) (c s rest : List ℕ) → IsValue tag c s → GivesOrTooDeep (nested_at tag depth (s ++ rest)) (c, rest)
+pub nested_again : (tag : Tag) (depth : ℕ) (c s rest : List ℕ) → IsValue tag c s → nested_at tag depth (s ++ rest) ≡ within depth 1 (c, rest)
 unfolding nested_at
-nested_again tag depth c s rest v = rw (IsValue-again tag c s rest v) (deeper_again depth (c, rest))
+nested_again tag depth c s rest v = rw (IsValue-again tag c s rest v) (deeper_is depth (c, rest))
 
 pub nested_takes : (tag : Tag) (depth : ℕ) (bytes c rest : List ℕ) → TailIsBytes bytes → nested_at tag depth bytes ≡ Ok (c, rest) → IsValue tag c (value_of tag.0 c) × (bytes ≡ value_of tag.0 c ++ rest)
 unfolding nested_at
@@ -212,9 +209,9 @@ whole_bytes_again : (c : List ℕ) → whole_bytes (0 ∷ c) ≡ Ok c
 unfolding whole_bytes
 whole_bytes_again c = refl
 
-pub nested_bits_again : (tag : Tag) (depth : ℕ) (c s rest : List ℕ) → IsValue tag (0 ∷ c) s → GivesOrTooDeep (nested_bits_at tag depth (s ++ rest)) (c, rest)
+pub nested_bits_again : (tag : Tag) (depth : ℕ) (c s rest : List ℕ) → IsValue tag (0 ∷ c) s → nested_bits_at tag depth (s ++ rest) ≡ within depth 1 (c, rest)
 unfolding nested_bits_at
-nested_bits_again tag depth c s rest v = rw (IsValue-again tag (0 ∷ c) s rest v, whole_bytes_again c) (deeper_again depth (c, rest))
+nested_bits_again tag depth c s rest v = rw (IsValue-again tag (0 ∷ c) s rest v, whole_bytes_again c) (deeper_is depth (c, rest))
 
 pub nested_bits_takes : (tag : Tag) (depth : ℕ) (bytes c rest : List ℕ) → TailIsBytes bytes → nested_bits_at tag depth bytes ≡ Ok (c, rest) → IsValue tag (0 ∷ c) (value_of tag.0 (0 ∷ c)) × (bytes ≡ value_of tag.0 (0 ∷ c) ++ rest)
 unfolding nested_bits_at

@@ -1,12 +1,13 @@
 -- The laws of a type whose contents octets are decoded.
-use Rattle.std.proofs.Common.{◌≡◌, ◌≢◌, ℕ, ◌%◌, ◌<◌, eqb, List, [], ◌++◌, length, Ok, Err, refl, sym, ap, subst, ◌∙◌, arith, inl}
+use Rattle.std.proofs.Common.{◌≡◌, ◌≢◌, ℕ, ◌%◌, ◌<◌, eqb, List, [], ◌++◌, length, Ok, Err, refl, sym, ap, subst, ◌∙◌, arith}
 use Rattle.picky_asn1_tag.specs.declared.tag.Tag.{Tag}
 use Rattle.picky_der.specs.declared.fault.DerError.TheVariants.{Truncated}
 use Rattle.picky_der.specs.Length.{TailIsBytes, value_of}
-use Rattle.picky_der.specs.Reading.{◌>>=◌, value_at}
-use Rattle.picky_der.specs.Form.{Readable, Writable, Tagged, IsValue, Takes, GivesOrTooDeep}
+use Rattle.picky_der.specs.Reading.{◌>>=◌, within, value_at}
+use Rattle.picky_der.specs.Form.{Readable, Writable, Tagged, IsValue, Takes}
 use Rattle.picky_der.specs.Primitive.{Contents, Decodes, SpellsPrimitive, primitive_at, primitive_form}
 use Rattle.picky_der.specs.laws.Steps.{ok_is, bind_ok, pair_snd}
+use Rattle.picky_der.specs.laws.Depth.{within_none}
 use Rattle.picky_der.specs.laws.Headers.{IsValue-same, IsValue-again, IsValue-of, IsBytes-contents, BeginsBy-value, value_takes, value_shorter, eqb_same}
 use Rattle.picky_der.specs.laws.Prefixes.{Stays, kept_fault, value_goes_on, value_stays, value_cut, then_stays}
 
@@ -28,11 +29,11 @@ module _ {X : Type 0} (tag : Tag) (k : Contents X) (law : Decodes k) where
       let h = law.takes v.0.0 w.0 (IsBytes-contents tag.0 v.0.0 v.0.1 (subst TailIsBytes t.1 fits)) w.1 in
       taken bytes v.0.0 v.0.1 rest w.0 x t.0 t.1 h.0 h.1 (ok_is (w.0, v.0.1) (x, rest) w.2)
 
-  primitive_again : (depth : ℕ) (s rest : List ℕ) (x : X) → k.in_form x → SpellsPrimitive tag k.Octets s x → GivesOrTooDeep (primitive_at tag k.decode depth (s ++ rest)) (x, rest)
+  primitive_again : (depth : ℕ) (s rest : List ℕ) (x : X) → k.in_form x → SpellsPrimitive tag k.Octets s x → primitive_at tag k.decode depth (s ++ rest) ≡ within depth 0 (x, rest)
   unfolding primitive_at
   primitive_again depth s rest x formed p =
       let h : k.decode p.octets ≡ Ok x = law.again p.octets x formed p.stands_for in
-      rw (IsValue-again tag p.octets s rest p.value, h) (inl refl)
+      rw (IsValue-again tag p.octets s rest p.value, h) (sym (within_none depth (x, rest)))
 
   primitive_shorter : (depth : ℕ) (bytes : List ℕ) (x : X) (rest : List ℕ) → primitive_at tag k.decode depth bytes ≡ Ok (x, rest) → length rest < length bytes
   unfolding primitive_at

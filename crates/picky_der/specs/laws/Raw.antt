@@ -1,5 +1,5 @@
 -- The laws of a value kept as its bytes.
-use Rattle.std.proofs.Common.{◌≡◌, ℕ, ◌%◌, true, eqb, List, [], ◌++◌, Ok, refl, sym, ap, subst, ◌∙◌, inl}
+use Rattle.std.proofs.Common.{◌≡◌, ℕ, ◌%◌, true, eqb, List, [], ◌++◌, Ok, refl, sym, ap, subst, ◌∙◌}
 use Rattle.std.specs.Prelude.{not}
 use Rattle.std.proofs.lemmas.Bool.{ne_eqb}
 use Rattle.std.proofs.lemmas.List.{append-nil}
@@ -8,6 +8,7 @@ use Rattle.picky_der.specs.Reading.{raw_at, end_at}
 use Rattle.picky_der.specs.Form.{Readable, Writable, IsOneValue, BeginsBy, Takes}
 use Rattle.picky_der.specs.Raw.{raw_form}
 use Rattle.picky_der.specs.laws.Steps.{ok_is, pair_fst}
+use Rattle.picky_der.specs.laws.Depth.{within_none}
 use Rattle.picky_der.specs.laws.Headers.{raw_again, raw_takes, raw_shorter, end_takes, BeginsBy-value}
 use Rattle.picky_der.specs.laws.Prefixes.{raw_stays, raw_cut}
 
@@ -33,7 +34,7 @@ raw_readable = record {
   one_value = λ s x f p. subst IsOneValue (sym p) f;
   prefix_free = raw_prefix_free;
   takes = λ _ bytes x rest fits e. raw_takes_form bytes x rest fits e;
-  again = λ _ s rest x f p. inl (rw p (raw_again x rest f));
+  again = λ depth s rest x f p. rw p (raw_again x rest f) ∙ sym (within_none depth (x, rest));
   shorter = λ _ bytes x rest e. raw_shorter bytes x rest e;
   first = raw_first;
   cut = λ _ front back x f p some. raw_cut front back (subst IsOneValue (sym p) f) some;

@@ -1,30 +1,43 @@
 -- One value, and nothing after it.
-use Rattle.std.proofs.Common.{◌≡◌, ℕ, List, [], ◌++◌, Result, Ok, Err, refl, sym, ap, subst, ◌∙◌, inl, inr}
+use Rattle.std.proofs.Common.{◌≡◌, ℕ, ◌<◌, ◌≤◌, List, [], ◌++◌, Result, Ok, Err, refl, sym, ap, subst, ◌∙◌, arith, inl, inr}
 use Rattle.std.proofs.lemmas.List.{append-nil}
 use Rattle.picky_der.specs.declared.fault.DerError.{DerError}
 use Rattle.picky_der.specs.declared.fault.DerError.TheVariants.{Truncated, WrongTag, BadLength, BadValue, TrailingBytes, TooDeep, OutOfMemory}
 use Rattle.picky_der.specs.Length.{TailIsBytes}
-use Rattle.picky_der.specs.Reading.{◌>>=◌, Gives, raw_at, end_at}
-use Rattle.picky_der.specs.Form.{Form, Readable, Writable, GivesOrTooDeep, OkUnlessDeep, Appends, whole}
+use Rattle.picky_der.specs.Reading.{◌>>=◌, Gives, within, raw_at, end_at}
+use Rattle.picky_der.specs.Form.{Form, Readable, Writable, OkUnlessDeep, Appends, whole}
 use Rattle.picky_der.specs.laws.Steps.{bind_ok, ok_is}
+use Rattle.picky_der.specs.laws.Depth.{either_way, allowed, too_deep, within_next}
 use Rattle.picky_der.specs.laws.Headers.{raw_again, end_takes, end_again}
 
--- what a call answered, where reading gives y or stops at the limit
-pub OkUnlessDeep-from : {X Y : Type 0} (view : X → Y) (result : Result X DerError) (read : Result Y DerError) (y : Y) → Gives view result read → GivesOrTooDeep read y → OkUnlessDeep view result y
-OkUnlessDeep-from view (Ok x) read y p (inl q) = ok_is (view x) y (sym p ∙ q)
-OkUnlessDeep-from view (Ok x) read y p (inr q) = absurd (cc (p, q))
-OkUnlessDeep-from view (Err OutOfMemory) read y p q = tt
-OkUnlessDeep-from view (Err TooDeep) read y p q = tt
-OkUnlessDeep-from view (Err Truncated) read y p (inl q) = absurd (cc (p, q))
-OkUnlessDeep-from view (Err Truncated) read y p (inr q) = absurd (cc (p, q))
-OkUnlessDeep-from view (Err (WrongTag a b)) read y p (inl q) = absurd (cc (p, q))
-OkUnlessDeep-from view (Err (WrongTag a b)) read y p (inr q) = absurd (cc (p, q))
-OkUnlessDeep-from view (Err BadLength) read y p (inl q) = absurd (cc (p, q))
-OkUnlessDeep-from view (Err BadLength) read y p (inr q) = absurd (cc (p, q))
-OkUnlessDeep-from view (Err BadValue) read y p (inl q) = absurd (cc (p, q))
-OkUnlessDeep-from view (Err BadValue) read y p (inr q) = absurd (cc (p, q))
-OkUnlessDeep-from view (Err TrailingBytes) read y p (inl q) = absurd (cc (p, q))
-OkUnlessDeep-from view (Err TrailingBytes) read y p (inr q) = absurd (cc (p, q))
+-- what a call answered, where reading gives y
+ok_answered : {X Y : Type 0} (view : X → Y) (height : ℕ) (result : Result X DerError) (read : Result Y DerError) (y : Y) → Gives view result read → read ≡ Ok y → height ≤ 256 → OkUnlessDeep view height result y
+ok_answered view height (Ok x) read y p q h = (ok_is (view x) y (sym p ∙ q), h)
+ok_answered view height (Err OutOfMemory) read y p q h = tt
+ok_answered view height (Err TooDeep) read y p q h = absurd (cc (p, q))
+ok_answered view height (Err Truncated) read y p q h = absurd (cc (p, q))
+ok_answered view height (Err (WrongTag a b)) read y p q h = absurd (cc (p, q))
+ok_answered view height (Err BadLength) read y p q h = absurd (cc (p, q))
+ok_answered view height (Err BadValue) read y p q h = absurd (cc (p, q))
+ok_answered view height (Err TrailingBytes) read y p q h = absurd (cc (p, q))
+
+-- what it answered, where reading is too deep
+deep_answered : {X Y : Type 0} (view : X → Y) (height : ℕ) (result : Result X DerError) (read : Result Y DerError) (y : Y) → Gives view result read → read ≡ Err TooDeep → 256 < height → OkUnlessDeep view height result y
+deep_answered view height (Ok x) read y p q h = absurd (cc (p, q))
+deep_answered view height (Err OutOfMemory) read y p q h = tt
+deep_answered view height (Err TooDeep) read y p q h = h
+deep_answered view height (Err Truncated) read y p q h = absurd (cc (p, q))
+deep_answered view height (Err (WrongTag a b)) read y p q h = absurd (cc (p, q))
+deep_answered view height (Err BadLength) read y p q h = absurd (cc (p, q))
+deep_answered view height (Err BadValue) read y p q h = absurd (cc (p, q))
+deep_answered view height (Err TrailingBytes) read y p q h = absurd (cc (p, q))
+
+-- what a call answered, where reading gives y within its height
+pub OkUnlessDeep-from : {X Y : Type 0} (view : X → Y) (height : ℕ) (result : Result X DerError) (read : Result Y DerError) (y : Y) → Gives view result read → read ≡ within 0 height y → OkUnlessDeep view height result y
+OkUnlessDeep-from view height result read y p q = elim (either_way 0 height) [
+  | inl h ↦ ok_answered view height result read y p (q ∙ allowed 0 height y h) (omega arith)
+  | inr h ↦ deep_answered view height result read y p (q ∙ too_deep 0 height y h) (omega arith)
+]
 
 module _ {X : Type 0} (f : Form X) (law : Readable f) where
   -- a value that was taken with nothing left is spelled by all the bytes
@@ -42,16 +55,18 @@ module _ {X : Type 0} (f : Form X) (law : Readable f) where
       taken_whole bytes t.spelling v.0.1 v.0.0 x t.formed t.spelled t.parts (end_takes v.0.1 n.0 n.1) (ok_is v.0.0 x n.2)
 
   -- a spelling with nothing after it
-  pub again_alone : (depth : ℕ) (bytes : List ℕ) (x : X) → f.in_form x → f.Spells bytes x → GivesOrTooDeep {Y = X × List ℕ} (f.reading depth bytes) (x, [])
-  again_alone depth bytes x formed spelled = rw append-nil at (law.again depth bytes [] x formed spelled)
+  pub again_alone : (depth : ℕ) (bytes : List ℕ) (x : X) → f.in_form x → (p : f.Spells bytes x) → f.reading depth bytes ≡ within depth (f.height bytes x p) (x, [])
+  again_alone depth bytes x formed p = ap (f.reading depth) (sym (append-nil bytes)) ∙ law.again depth bytes [] x formed p
 
-  pub whole_again : (bytes : List ℕ) (x : X) → f.in_form x → f.Spells bytes x → GivesOrTooDeep (whole f.reading bytes) x
+  -- the same, and then the end: what follows makes y of the value
+  pub alone_made : {Y : Type 0} (depth : ℕ) (bytes : List ℕ) (x : X) (make : X → Y) → f.in_form x → (p : f.Spells bytes x) → (f.reading depth bytes >>= λ v. end_at v.1 >>= λ _. Ok (make v.0)) ≡ within depth (f.height bytes x p) (make x)
+  alone_made depth bytes x make formed p =
+      let end : (end_at [] >>= λ _. Ok (make x)) ≡ Ok (make x) = rw end_again refl in
+      rw (again_alone depth bytes x formed p) (within_next depth (f.height bytes x p) (x, []) (make x) (λ v. end_at v.1 >>= λ _. Ok (make v.0)) end)
+
+  pub whole_again : (bytes : List ℕ) (x : X) → f.in_form x → (p : f.Spells bytes x) → whole f.reading bytes ≡ within 0 (f.height bytes x p) x
   unfolding whole
-  whole_again bytes x formed spelled =
-      elim (again_alone 0 bytes x formed spelled) [
-        | inl e ↦ inl (rw (e, end_again) refl)
-        | inr e ↦ inr (rw e refl)
-      ]
+  whole_again bytes x formed p = alone_made 0 bytes x (λ y. y) formed p
 
 module _ {X : Type 0} (f : Form X) (law : Writable f) where
   -- an encoding that stands alone is one value

@@ -13,7 +13,7 @@ returns-clause-found g c =
     (λ x e. whole_takes f g.met.T.DerRead.readable bytes x (TailIsBytes-of bytes (λ i. omega (arith, c.type_inv.bytes i))) e)
 
 pub returns-clause-every : goal.returns-clause-every
-returns-clause-every g c x formed spelled =
+returns-clause-every g c x formed p =
     let f = g.T.DerForm.form in
     let bytes = c.args.bytes.now in
-    OkUnlessDeep-from g.T.DerForm.stands_for c.all.result (whole f.reading bytes) x c.all.ensures (whole_again f g.met.T.DerRead.readable bytes x formed spelled)
+    OkUnlessDeep-from g.T.DerForm.stands_for (f.height bytes x p) c.all.result (whole f.reading bytes) x c.all.ensures (whole_again f g.met.T.DerRead.readable bytes x formed p)

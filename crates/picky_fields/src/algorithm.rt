@@ -1,17 +1,14 @@
 // AlgorithmIdentifiers.
-ghost use Rattle.std.specs.Prelude.{◌≡◌, [], IfOk, IfErr, OnOk};
-ghost use Rattle.picky_der.specs.declared.algorithm.AlgorithmIdentifier.{AlgorithmIdentifier as Algorithm};
-ghost use Rattle.picky_der.specs.Reading.{Gives};
-ghost use Rattle.picky_der.specs.Algorithm.{parameters_at, fields_at, algorithm_form};
-ghost use Rattle.picky_der.specs.laws.Algorithm.{algorithm_readable, algorithm_writable};
+#![tactic(auto, unfolding(crate::specs::Algorithm::algorithm, crate::specs::Fields::enclosed_at, crate::specs::Fields::run_at))]
 
-use crate::fault::DerError;
-use crate::form::{DerForm, DerRead, DerWrite};
-use crate::raw::Asn1RawDer;
-use crate::reader::DerReader;
-use crate::writing::write_value;
+ghost use Rattle.std.specs.Prelude.{◌≡◌, IfOk};
+ghost use Rattle.picky_fields.specs.declared.algorithm.AlgorithmIdentifier.{AlgorithmIdentifier as Algorithm};
+ghost use Rattle.picky_fields.specs.Algorithm.{algorithm, algorithm_lawful};
+
+use crate::optional::{read_last, write_optional};
 use picky_asn1_oid::ObjectIdentifier;
 use picky_asn1_tag::{Asn1Value, CopyIn, Tag};
+use picky_der::{Asn1RawDer, DerError, DerForm, DerRead, DerReader, DerWrite, write_value};
 use std::alloc::{AllocError, Global};
 
 /// An algorithm and its parameters: a SEQUENCE of an OBJECT IDENTIFIER and, where there are parameters, one value of
@@ -60,34 +57,13 @@ impl CopyIn for AlgorithmIdentifier {
     }
 }
 
-#[tactic(auto, unfolding(crate::specs::Algorithm::parameters_at))]
-fn read_parameters(alloc: Global, mut reader: DerReader<'_>) -> Result<Option<Asn1RawDer>, DerError>
-    ensures { Gives (λ p. p) result (parameters_at reader.entry.left) }
-{
-    if reader.is_empty() {
-        return Ok(None);
-    }
-    let parameters = Asn1RawDer::read_der(alloc, &mut reader)?;
-    reader.end()?;
-    Ok(Some(parameters))
-}
-
-#[tactic(auto, unfolding(crate::specs::Algorithm::fields_at))]
-fn read_fields(alloc: Global, mut reader: DerReader<'_>) -> Result<AlgorithmIdentifier, DerError>
-    ensures { Gives (λ a. a) result (fields_at reader.entry.depth reader.entry.left) }
-{
-    let oid = ObjectIdentifier::read_der(alloc, &mut reader)?;
-    let parameters = read_parameters(alloc, reader)?;
-    Ok(AlgorithmIdentifier { oid, parameters })
-}
-
 /// In form are the arcs of an identifier, with parameters that are one value or none. Each is spelled one way.
 impl DerForm for AlgorithmIdentifier {
     ghost Abstract = { Algorithm };
 
     ghost stands_for = { λ a. a };
 
-    ghost form = { algorithm_form };
+    ghost form = { algorithm };
 
     ghost same_value = { λ _ _ e. e };
 }
@@ -97,29 +73,29 @@ impl DerRead for AlgorithmIdentifier {
         tag == Tag::SEQUENCE
     }
 
-    #[tactic(auto, unfolding(crate::specs::Algorithm::algorithm_at))]
     fn read_der(
         alloc: Global,
         reader: &mut DerReader<'_>,
     ) -> Result<AlgorithmIdentifier, DerError> {
         let mut ahead = reader.fork();
-        let value = read_fields(alloc, ahead.nested(Tag::SEQUENCE)?)?;
+        let mut fields = ahead.nested(Tag::SEQUENCE)?;
+        let oid = ObjectIdentifier::read_der(alloc, &mut fields)?;
+        let parameters = read_last(alloc, &mut fields)?;
+        fields.end()?;
         *reader = ahead;
-        Ok(value)
+        Ok(AlgorithmIdentifier { oid, parameters })
     }
 
-    ghost readable = { algorithm_readable };
+    ghost readable = { algorithm_lawful.readable };
 }
 
 impl DerWrite for AlgorithmIdentifier {
     fn write_der(&self, alloc: Global, out: &mut Vec<u8>) -> Result<(), DerError> {
-        let mut contents = Vec::new(alloc);
-        self.oid.write_der(alloc, &mut contents)?;
-        if let Some(parameters) = &self.parameters {
-            parameters.write_der(alloc, &mut contents)?;
-        }
-        write_value(out, Tag::SEQUENCE, &contents)
+        let mut fields = Vec::new(alloc);
+        self.oid.write_der(alloc, &mut fields)?;
+        write_optional(alloc, &self.parameters, &mut fields)?;
+        write_value(out, Tag::SEQUENCE, &fields)
     }
 
-    ghost writable = { algorithm_writable };
+    ghost writable = { algorithm_lawful.writable };
 }

@@ -1,0 +1,57 @@
+// Records of fields.
+//
+//     der_record.read TYPE BYTES          what the value that is read is written as, or the fault
+//     der_record.comes_back TYPE BYTES    whether the bytes are read as a value that is written as them
+//     der_record.told BYTES               which case of an entry the bytes are
+//     der_record.levels BYTES N           `read` where the bytes are a bag nested at most N levels, `none`, or the fault
+use crate::der::faults::{bytes_or_refusal, refusal};
+use anyhow::{Result, bail};
+use der_examples::{Batch, Entry, read_levels};
+use picky_der::{DerError, DerRead, DerReader, DerWrite, from_bytes, to_vec};
+use rows::{Answer, Words};
+use std::alloc::Global;
+
+pub fn answer(alloc: Global, call: &str, words: &mut Words<'_>) -> Result<Answer> {
+    match call {
+        "told" => told(alloc, &words.bytes(alloc)?),
+        "levels" => levels(alloc, &words.bytes(alloc)?, words.next().parse::<u32>()?),
+        _ => record_of(alloc, call, words),
+    }
+}
+
+fn record_of(alloc: Global, call: &str, words: &mut Words<'_>) -> Result<Answer> {
+    match words.next() {
+        "batch" => record::<Batch>(alloc, call, &words.bytes(alloc)?),
+        "entry" => record::<Entry>(alloc, call, &words.bytes(alloc)?),
+        _ => bail!("no such type"),
+    }
+}
+
+fn record<T: DerRead + DerWrite + Drop>(alloc: Global, call: &str, bytes: &[u8]) -> Result<Answer> {
+    match (call, from_bytes::<T>(alloc, bytes)) {
+        ("read", Ok(value)) => bytes_or_refusal(alloc, to_vec(alloc, &value)),
+        ("read", Err(fault)) => refusal(fault),
+        ("comes_back", Ok(value)) => {
+            Ok(Answer::Truth(to_vec(alloc, &value)?.as_slice() == bytes))
+        }
+        (_, Err(DerError::OutOfMemory)) => bail!("out of memory"),
+        ("comes_back", Err(_)) => Ok(Answer::Truth(false)),
+        _ => bail!("no such call"),
+    }
+}
+
+fn told(alloc: Global, bytes: &[u8]) -> Result<Answer> {
+    match from_bytes::<Entry>(alloc, bytes)? {
+        Entry::Name(_) => Ok(Answer::Word("name")),
+        Entry::Count(_) => Ok(Answer::Word("count")),
+        Entry::Unknown { .. } => Ok(Answer::Word("unknown")),
+    }
+}
+
+fn levels(alloc: Global, bytes: &[u8], levels: u32) -> Result<Answer> {
+    match read_levels(alloc, &mut DerReader::new(bytes), levels) {
+        Ok(Some(_)) => Ok(Answer::Word("read")),
+        Ok(None) => Ok(Answer::Word("none")),
+        Err(fault) => refusal(fault),
+    }
+}

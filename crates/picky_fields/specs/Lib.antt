@@ -1,0 +1,4 @@
+pub mod Algorithm
+pub mod Choice
+pub mod Fields
+pub mod laws
