@@ -3,13 +3,15 @@
 //     gate.run WORDS                      STATUS TEXT, with room for 100 bytes
 //     gate.run_in ROOM WORDS              STATUS LEFT TEXT, with so much room, at most 100, and what of it is left
 //     gate.run_over PATH BYTES WORDS      STATUS TEXT, where these bytes were put under the path before
+//     gate.run_failing CALL WORDS         STATUS TEXT, where this fetch, counted from 1, is to fail
+//     gate.run_fixed WORDS                STATUS TEXT, over a cabinet that never fails
 //     gate.asked WORDS                    the paths that the cabinet was asked for, each behind a bar
 //
 // WORDS are those of the program, each behind a bar. What they name is held where it is a file of the folder `data`,
 // or `full` or `long`, which are spaces up to the greatest length of a document and one above it.
 use crate::outcomes::{program_words, status_and_text, status_left_and_text};
-use anyhow::{Result, bail};
-use picky_gate::{MemoryCabinet, MemorySink, run};
+use anyhow::{Context, Result, bail};
+use picky_gate::{FixedCabinet, MemoryCabinet, MemorySink, run};
 use rows::{Answer, Words};
 use std::alloc::AllocError;
 use std::fs;
@@ -40,6 +42,8 @@ pub(crate) fn answer(rt: &HostRuntime, call: &str, words: &mut Words<'_>) -> Res
         "run" => run_with_room(rt, words),
         "run_in" => run_in(rt, words),
         "run_over" => run_over(rt, words),
+        "run_failing" => run_failing(rt, words),
+        "run_fixed" => run_fixed(rt, words),
         "asked" => asked(rt, words),
         _ => bail!("no such call"),
     }
@@ -71,6 +75,36 @@ fn run_over(rt: &HostRuntime, words: &mut Words<'_>) -> Result<Answer> {
     let words = program_words(alloc, words)?;
     let mut cabinet = cabinet(rt, &words)?;
     cabinet.put(path, bytes)?;
+    let mut out = MemorySink::new(alloc, 100)?;
+    let status = run(alloc, &words, &mut cabinet, &mut out);
+    status_and_text(alloc, status.code, &out)
+}
+
+fn run_failing(rt: &HostRuntime, words: &mut Words<'_>) -> Result<Answer> {
+    let alloc = rt.alloc();
+    let call = words.number()?;
+    let words = program_words(alloc, words)?;
+    let mut cabinet = cabinet(rt, &words)?;
+    cabinet.fail_at(u64::try_from(call).ok().context("no such call")?)?;
+    let mut out = MemorySink::new(alloc, 100)?;
+    let status = run(alloc, &words, &mut cabinet, &mut out);
+    status_and_text(alloc, status.code, &out)
+}
+
+fn fixed_cabinet(rt: &HostRuntime, words: &[String]) -> Result<FixedCabinet, AllocError> {
+    let mut cabinet = FixedCabinet::new(rt.alloc());
+    for word in words {
+        if let Some(bytes) = document(rt, word)? {
+            cabinet.put(word, bytes)?;
+        }
+    }
+    Ok(cabinet)
+}
+
+fn run_fixed(rt: &HostRuntime, words: &mut Words<'_>) -> Result<Answer> {
+    let alloc = rt.alloc();
+    let words = program_words(alloc, words)?;
+    let mut cabinet = fixed_cabinet(rt, &words)?;
     let mut out = MemorySink::new(alloc, 100)?;
     let status = run(alloc, &words, &mut cabinet, &mut out);
     status_and_text(alloc, status.code, &out)

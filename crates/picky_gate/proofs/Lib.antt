@@ -6,8 +6,10 @@ pub mod TextMaps
 pub mod ClaimsLemmas
 pub mod Vouching
 pub mod Admitting
+pub mod Schemes
 pub mod Rings
 pub mod Delivery
 pub mod Deciding
 pub mod Theorem
 pub mod Once
+pub mod Checking

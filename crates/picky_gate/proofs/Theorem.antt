@@ -1,20 +1,39 @@
 -- What the program says is what the decision says of the documents that the cabinet tells.
-use Rattle.std.proofs.Common.{◌≡◌, inl, inr, ◌≤◌, ◌<◌, ◌+◌, ◌⊎◌, ℕ, List, [], ◌∷◌, take, Option, Some, sym, subst, arith}
+use Rattle.std.proofs.Common.{◌≡◌, inl, inr, ◌≤◌, ◌<◌, ◌+◌, ◌⊎◌, ℕ, List, [], ◌∷◌, take, codes, Option, Some, None, refl, ap, ◌∙◌, sym, subst, arith}
 use Rattle.picky_contract.specs.laws.Tables.{Leads}
 use Rattle.picky_gate.specs.declared.documents.Document.{Document}
-use Rattle.picky_gate.specs.declared.documents.Document.TheVariants.{Keys, Records}
+use Rattle.picky_gate.specs.declared.documents.Document.TheVariants.{Keys, Records, Request}
 use Rattle.picky_gate.specs.declared.documents.Documents.{Documents}
 use Rattle.picky_gate.specs.Admissible.{Admission}
-use Rattle.picky_gate.specs.Command.{Text, Admit, IsCommand}
+use Rattle.picky_gate.specs.Command.{Text, Admit, IsCommand, IsItself, IsNumber, StandsAtMostOnce}
 use Rattle.picky_gate.specs.Documents.{limit, decision, IsAdmissible}
 use Rattle.picky_gate.specs.Faults.{Why, bad, refused}
-use Rattle.picky_gate.specs.Headline.{Tells, IsTaken, Says}
+use Rattle.picky_gate.specs.Headline.{Tells, TellsIf, IsTaken, Says}
 use Rattle.picky_gate.specs.Lines.{admitted_text, why_status, why_text}
 use Rattle.picky_gate.specs.Outcome.{Outcome}
 use Rattle.picky_gate.specs.Outside.{IsFetched, Adds}
-use Rattle.picky_gate.specs.Reply.{Reply, usage, unread, admitted, failed, ComesTo, IsAnswer, IsReply, reply_text, reply_status, Delivers, Replies}
+use Rattle.picky_gate.specs.Reply.{IsFetchedIf, Reply, usage, unread, admitted, failed, ComesTo, IsAnswer, IsReply, reply_text, reply_status, Delivers, Replies}
 use Rattle.picky_gate.specs.Run.{Run, FetchFailed, WriteFailed, Asked, Wrote, paths_of, paths_to}
-use Rattle.picky_gate.proofs.Deciding.{decision_exact, to_words, from_words, fetched_leads}
+use Rattle.picky_gate.proofs.Fetching.{all_paths}
+use Rattle.picky_gate.proofs.Deciding.{decision_exact, to_words, from_words, IsCut, fetched_leads}
+
+-- a flag that stands at most once has one number at most
+one_number : (most last : ℕ) (flag : Text) (words : List Text) (m n : Option ℕ) → StandsAtMostOnce (IsNumber most last) flag words m → StandsAtMostOnce (IsNumber most last) flag words n → n ≡ m
+one_number most last flag words None None h k = refl
+one_number most last flag words None (Some n) h k = let no : [] ≡ k.0 ∷ [] = sym h ∙ k.1 in absurd cc
+one_number most last flag words (Some m) None h k = let no : [] ≡ h.0 ∷ [] = sym k ∙ h.1 in absurd cc
+one_number most last flag words (Some m) (Some n) h k =
+    let texts : k.0 ≡ h.0 = cc (h.1, k.1) in
+    let same : n ≡ m = cc (texts, h.2.value, k.2.value) in
+    ap Some same
+
+one_path : (flag : Text) (words : List Text) (m n : Option Text) → StandsAtMostOnce IsItself flag words m → StandsAtMostOnce IsItself flag words n → n ≡ m
+one_path flag words None None h k = refl
+one_path flag words None (Some n) h k = let no : [] ≡ k.0 ∷ [] = sym h ∙ k.1 in absurd cc
+one_path flag words (Some m) None h k = let no : [] ≡ h.0 ∷ [] = sym k ∙ h.1 in absurd cc
+one_path flag words (Some m) (Some n) h k =
+    let texts : k.0 ≡ h.0 = cc (h.1, k.1) in
+    ap Some (k.2 ∙ texts ∙ sym h.2)
 
 -- words are one command at most
 pub one_command : (words : List Text) (c d : Admit) → IsCommand words c → IsCommand words d → d ≡ c
@@ -23,14 +42,24 @@ one_command (w ∷ words) c d first second =
     let keys : d.keys ≡ c.keys = cc (first.1.keys, second.1.keys) in
     let records : d.records ≡ c.records = cc (first.1.records, second.1.records) in
     let text : d.text ≡ c.text = cc (first.1.text, second.1.text) in
-    let digits : first.1.digits ≡ second.1.digits = cc (first.1.now, second.1.now) in
-    let now : d.now ≡ c.now = cc (first.1.moment.value, second.1.moment.value) in
-    λ i. record { keys = keys i; records = records i; text = text i; now = now i }
+    let now : d.now ≡ c.now = one_number 19 9223372036854775807 (codes "--now") words c.now d.now first.1.now second.1.now in
+    let leeway : d.leeway ≡ c.leeway = one_number 5 65535 (codes "--leeway") words c.leeway d.leeway first.1.leeway second.1.leeway in
+    let request : d.request ≡ c.request = one_path (codes "--request") words c.request d.request first.1.request second.1.request in
+    λ i. record { keys = keys i; records = records i; text = text i; request = request i; now = now i; leeway = leeway i }
 
 -- a text that was not cut was written whole, with its status
 not_six : (text : List ℕ) (code room status : ℕ) (before after : Option (List ℕ)) → Delivers text code room before after status → ¬ (status ≡ 6) → (status ≡ code) × Adds before text after
 not_six text code room status before after (inl all) never = all
 not_six text code room status before after (inr cut) never = absurd (never cut.0)
+
+-- a request document that was fetched is a front of that which is told
+request_cut : (run : Run) (path : Option Text) (bytes doc : Option (List ℕ)) → TellsIf run path doc → IsFetchedIf run.content path bytes → IsCut doc bytes
+request_cut run None None None tell fetched = tt
+request_cut run None None (Some doc) tell fetched = absurd tell
+request_cut run None (Some bytes) doc tell fetched = absurd fetched
+request_cut run (Some path) None doc tell fetched = absurd fetched
+request_cut run (Some path) (Some bytes) None tell fetched = absurd tell
+request_cut run (Some path) (Some bytes) (Some doc) tell fetched = subst (λ (o : Option (List ℕ)). IsFetched o limit bytes) tell fetched
 
 module _ (run : Run) (c : Admit) (told : Documents) (tells : Tells run c told) where
   on : (docs : Documents) → Leads (decision c docs) (decision c told) → (reply : Reply) → ComesTo c docs reply → ComesTo c told reply
@@ -45,7 +74,8 @@ module _ (run : Run) (c : Admit) (told : Documents) (tells : Tells run c told) w
       let brought : (path : Admit → Text) (bytes doc : List ℕ) → run.content (path c) ≡ Some doc → IsFetched (run.content (path is.command)) limit bytes → bytes ≡ take (limit + 1) doc = λ path bytes doc tell fetched. subst (λ (o : Option (List ℕ)). IsFetched o limit bytes) tell (subst (λ (b : Admit). IsFetched (run.content (path b)) limit bytes) same fetched) in
       let keys = brought (λ b. b.keys) is.docs.keys told.keys tells.keys is.fetched.keys in
       let records = brought (λ b. b.records) is.docs.records told.records tells.records is.fetched.records in
-      on is.docs (fetched_leads c told is.docs keys records) reply (subst (λ (b : Admit). ComesTo b is.docs reply) same is.comes_to)
+      let request = request_cut run c.request is.docs.request told.request tells.request (subst (λ (b : Admit). IsFetchedIf run.content b.request is.docs.request) same is.fetched.request) in
+      on is.docs (fetched_leads c told is.docs keys records request) reply (subst (λ (b : Admit). ComesTo b is.docs reply) same is.comes_to)
 
 module _ (run : Run) where
   -- the whole text, with this status
@@ -135,15 +165,19 @@ module _ (run : Run) where
         same : (d : Admit) (n : ℕ) → IsCommand run.words d → Asked run (take n (paths_of d)) → (m : ℕ) × Asked run (take m (paths_of c))
         same d n other asked = (n, subst (λ (b : Admit). Asked run (take n (paths_of b))) (one_command run.words c d command other) asked)
 
+        whole : (b : Admit) → Asked run (paths_of b) → (n : ℕ) × Asked run (take n (paths_of b))
+        whole b asked = (3, subst (λ (l : List Text). Asked run l) (sym (all_paths b)) asked)
+
         to : (d : Document) (b : Admit) → Asked run (paths_to d b) → (n : ℕ) × Asked run (take n (paths_of b))
         to Keys b asked = (1, asked)
         to Records b asked = (2, asked)
+        to Request b asked = whole b asked
 
         one : (reply : Reply) → IsReply run reply → (n : ℕ) × Asked run (take n (paths_of c))
         one usage is = absurd (is.none c command)
         one (unread document) is = let t = to document is.command is.asked in same is.command t.0 is.is_command t.1
-        one (admitted a) is = same is.command 2 is.is_command is.asked
-        one (failed why) is = same is.command 2 is.is_command is.asked
+        one (admitted a) is = let t = whole is.command is.asked in same is.command t.0 is.is_command t.1
+        one (failed why) is = let t = whole is.command is.asked in same is.command t.0 is.is_command t.1
 
     -- all paths, where the command comes to its reply
     all_asked : (c : Admit) → IsCommand run.words c → (reply : Reply) → IsAnswer run reply → Asked run (paths_of c)

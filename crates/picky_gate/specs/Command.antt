@@ -1,5 +1,5 @@
 -- The words of the command line and the command that they are (own).
-use Rattle.std.specs.Prelude.{◌≡◌, ◌<◌, ◌≤◌, ◌^◌, ℕ, ◌⊎◌, List, [], ◌∷◌, String, string_bytes, map, length, codes, if◌then◌else◌, true}
+use Rattle.std.specs.Prelude.{◌≡◌, ◌<◌, ◌≤◌, ℕ, ◌⊎◌, List, [], ◌∷◌, Option, Some, None, String, string_bytes, map, length, codes, if◌then◌else◌, true}
 use Rattle.std.specs.Str.{bytes_eq, all_ascii_digits}
 use Rattle.std.specs.Str.Parse.{digits_value}
 use Rattle.std.specs.declared.alloc.Global.{Global}
@@ -16,9 +16,42 @@ abbrev pub values_under : Text → List Text → List Text
 values_under flag (name ∷ value ∷ rest) = if bytes_eq name flag then value ∷ values_under flag rest else values_under flag rest
 values_under flag _ = []
 
+-- ---- manners of flags
+
+-- the flag stands exactly once, and this is its value
+abbrev pub StandsOnce : Text → List Text → Text → Type 0
+StandsOnce flag words value = values_under flag words ≡ value ∷ []
+
+-- the flag stands at most once: it doesn't, or its value is a text of this number
+abbrev pub StandsAtMostOnce : {X : Type 0} → (Text → X → Type 0) → Text → List Text → Option X → Type 0
+StandsAtMostOnce R flag words None = values_under flag words ≡ []
+StandsAtMostOnce R flag words (Some x) = (value : Text) × StandsOnce flag words value × R value x
+
+-- the text stands for itself
+abbrev pub IsItself : Text → Text → Type 0
+IsItself text x = x ≡ text
+
+-- the text is 1 to `most` digits that write n, which is at most `last`
+pub record IsNumber (most last : ℕ) (text : Text) (n : ℕ) : Type 0 where
+  pub digits : all_ascii_digits text ≡ true
+  pub some : 0 < length text
+  pub few : length text ≤ most
+  pub value : digits_value 10 text ≡ n
+  pub fits : n ≤ last
+
+-- a moment in seconds: 1 to 19 digits, at most 2^63 - 1
+abbrev pub IsMoment : Text → ℕ → Type 0
+IsMoment = IsNumber 19 9223372036854775807
+
+-- a leeway in seconds: 1 to 5 digits, at most 65,535
+abbrev pub IsLeeway : Text → ℕ → Type 0
+IsLeeway = IsNumber 5 65535
+
+-- ---- `admit`
+
 -- the flags of `admit`
 abbrev pub IsFlag : Text → Type 0
-IsFlag name = (name ≡ codes "--keys") ⊎ (name ≡ codes "--records") ⊎ (name ≡ codes "--text") ⊎ (name ≡ codes "--now")
+IsFlag name = (name ≡ codes "--keys") ⊎ (name ≡ codes "--records") ⊎ (name ≡ codes "--text") ⊎ (name ≡ codes "--request") ⊎ (name ≡ codes "--now") ⊎ (name ≡ codes "--leeway")
 
 -- the words are flags and values in turn
 abbrev pub ArePairs : List Text → Type 0
@@ -26,30 +59,25 @@ ArePairs [] = Unit {0}
 ArePairs (name ∷ value ∷ rest) = IsFlag name × ArePairs rest
 ArePairs (name ∷ []) = ⊥
 
--- the text is 1 to 19 digits that write n, which is at most 2^63 - 1
-pub record IsMoment (text : Text) (n : ℕ) : Type 0 where
-  pub digits : all_ascii_digits text ≡ true
-  pub some : 0 < length text
-  pub few : length text ≤ 19
-  pub value : digits_value 10 text ≡ n
-  pub fits : n < 2 ^ 63
-
--- what `admit` is asked: the paths of its documents, the text and the moment
+-- what `admit` is asked: the paths of its documents, the text, and the request's path, the moment and the leeway, where
+-- they are given
 pub record Admit : Type 0 where
   pub keys : Text
   pub records : Text
   pub text : Text
-  pub now : ℕ
+  pub request : Option Text
+  pub now : Option ℕ
+  pub leeway : Option ℕ
 
--- the words ask this of `admit`: each flag once, in any order
+-- the words ask this of `admit`: its flags in any order
 pub record AsksAdmit (words : List Text) (a : Admit) : Type 0 where
   pub pairs : ArePairs words
-  pub keys : values_under (codes "--keys") words ≡ a.keys ∷ []
-  pub records : values_under (codes "--records") words ≡ a.records ∷ []
-  pub text : values_under (codes "--text") words ≡ a.text ∷ []
-  pub digits : Text
-  pub now : values_under (codes "--now") words ≡ digits ∷ []
-  pub moment : IsMoment digits a.now
+  pub keys : StandsOnce (codes "--keys") words a.keys
+  pub records : StandsOnce (codes "--records") words a.records
+  pub text : StandsOnce (codes "--text") words a.text
+  pub request : StandsAtMostOnce IsItself (codes "--request") words a.request
+  pub now : StandsAtMostOnce IsMoment (codes "--now") words a.now
+  pub leeway : StandsAtMostOnce IsLeeway (codes "--leeway") words a.leeway
 
 -- the words are this command of the program
 abbrev pub IsCommand : List Text → Admit → Type 0

@@ -2,6 +2,7 @@
 use Rattle.std.specs.Prelude.{Option, Some, None, option_map}
 use Rattle.picky_key.specs.Records as records
 use Rattle.picky_jwk.specs.Refusals as jwk
+use Rattle.picky_http_request.specs.Heads as heads
 use Rattle.picky_gate.specs.declared.documents.Document.{Document}
 use Rattle.picky_gate.specs.declared.documents.DocumentFault.{DocumentFault}
 use Rattle.picky_gate.specs.declared.documents.DocumentFault.TheVariants as of_document
@@ -15,12 +16,14 @@ pub data Flaw : Type 0 where
   not_utf8 : Flaw
   of_keys : jwk.Fault → Flaw
   unbuilt_records : Flaw
+  bad_head : Flaw
 
 abbrev pub flaw_of : DocumentFault → Option Flaw
 flaw_of of_document.TooLong = Some too_long
 flaw_of of_document.Utf8 = Some not_utf8
 flaw_of (of_document.Jwk error) = option_map of_keys (jwk.fault error)
 flaw_of (of_document.Records error) = option_map (λ _. unbuilt_records) (records.fault error)
+flaw_of (of_document.Head error) = option_map (λ _. bad_head) (heads.head_fault error)
 flaw_of of_document.OutOfMemory = None
 
 -- why there is no admitted text

@@ -1,7 +1,7 @@
 -- The sentence about the program (own): over documents that the cabinet tells, with no failure, the
 -- status is 0 with the two lines exactly where the text is admissible, and otherwise the code is that
 -- of the first condition that fails. Want of memory is free.
-use Rattle.std.specs.Prelude.{◌≡◌, ◌⊎◌, ◌≤◌, ℕ, List, length, Some}
+use Rattle.std.specs.Prelude.{◌≡◌, ◌⊎◌, ◌≤◌, ℕ, List, length, Option, Some, None}
 use Rattle.picky_gate.specs.declared.documents.Documents.{Documents}
 use Rattle.picky_gate.specs.Admissible.{Admission}
 use Rattle.picky_gate.specs.Command.{Admit, IsCommand}
@@ -10,11 +10,18 @@ use Rattle.picky_gate.specs.Faults.{Why}
 use Rattle.picky_gate.specs.Lines.{admitted_text, why_status, why_text}
 use Rattle.picky_gate.specs.Run.{Run, FetchFailed, WriteFailed, Wrote}
 
+-- the cabinet tells the document, where there is a path
+abbrev pub TellsIf : Run → Option (List ℕ) → Option (List ℕ) → Type 0
+TellsIf run None None = Unit {0}
+TellsIf run (Some path) (Some doc) = run.content path ≡ Some doc
+TellsIf run _ _ = ⊥
+
 -- the words are this command, and the cabinet tells its documents
 pub record Tells (run : Run) (c : Admit) (docs : Documents) : Type 0 where
   pub command : IsCommand run.words c
   pub keys : run.content c.keys ≡ Some docs.keys
   pub records : run.content c.records ≡ Some docs.records
+  pub request : TellsIf run c.request docs.request
 
 -- no write failed, or none can: the sink has room for the text
 abbrev pub IsTaken : Run → List ℕ → Type 0

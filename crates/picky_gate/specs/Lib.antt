@@ -5,13 +5,14 @@ pub mod Command
 pub mod Asked
 pub mod Entry
 pub mod Ring
-pub mod Bearer
+pub mod Scheme
 pub mod Claims
 pub mod Admissible
 pub mod Refusals
 pub mod Seen
 pub mod Moment
 pub mod Faults
+pub mod Request
 pub mod Documents
 pub mod Lines
 pub mod Run

@@ -1,34 +1,48 @@
 -- Why a text isn't admitted, and the conditions of a text in their order (own).
 use Rattle.std.specs.Prelude.{ℕ, List, Option, Some, None, option_map, string_bytes}
 use Rattle.serde_json.specs.View.{view}
-use Rattle.picky_contract.specs.Refusals.{Table, the, need, done, ◌>>=◌}
-use Rattle.picky_jose.specs.declared.date.JwtDate.{JwtDate}
+use Rattle.picky_contract.specs.Refusals.{Table, the, need, named, done, ◌>>=◌}
+use Rattle.picky_key.specs.Signatures.{Relation, bad}
 use Rattle.picky_jose.specs.Header.{Header}
 use Rattle.picky_jose.specs.Views.{header_view}
-use Rattle.picky_jose.specs.Dates.{IsBeforeEnd}
-use Rattle.picky_jose.specs.Signatures.{Relation}
-use Rattle.picky_jose.specs.Faults.{JwtFault, jwt_fault, jws, signature, bad, expired}
+use Rattle.picky_jose.specs.Claims.{dates_table}
+use Rattle.picky_jose.specs.Faults.{JwtFault, jwt_fault, jws, signature}
+use Rattle.picky_jose.specs.Validator.{Validator, IsLenient}
+use Rattle.picky_http.specs.Faults.{HttpFault, http_fault}
+use Rattle.picky_http.specs.Lines.{Request}
+use Rattle.picky_http.specs.Reading.{reading_of}
+use Rattle.picky_http.specs.Refusals.{reading_table}
+use Rattle.picky_http.specs.Verifying.{checked_table}
+use Rattle.picky_http.specs.Verifying.{answers_of}
+use Rattle.picky_gate.specs.declared.policy.Policy.{Policy}
 use Rattle.picky_gate.specs.declared.ring.RingEntry.{RingEntry}
 use Rattle.picky_gate.specs.declared.admission.Admitted.{Admitted}
-use Rattle.picky_gate.specs.declared.admission.Admitted.TheVariants.{Token}
+use Rattle.picky_gate.specs.declared.admission.Admitted.TheVariants.{Token, Request as Signed}
 use Rattle.picky_gate.specs.declared.admission.Refusal.{Refusal}
 use Rattle.picky_gate.specs.declared.admission.Refusal.TheVariants as refusal
 use Rattle.picky_gate.specs.TextMap.{TextMap}
-use Rattle.picky_gate.specs.Admissible.{Admission, token, FirstText, FirstTextOf, NamedKey, IsKeyUnder, Vouched}
+use Rattle.picky_gate.specs.Admissible.{Admission, token, request, FirstText, FirstTextOf, NamedKey, IsKeyUnder, TokenVouched}
+use Rattle.picky_gate.specs.Entry.{public}
 use Rattle.picky_gate.specs.Claims.{FirstClaimsOf}
+use Rattle.picky_gate.specs.Scheme.{Scheme, bearer, header_text, IsScheme}
 
 -- what was admitted, without where it lies in memory
 abbrev pub admission_of : Admitted → Admission
 admission_of (Token name header claims) = token (string_bytes name.0) (header_view header) (view claims)
+admission_of (Signed name algorithm said) = request (string_bytes name.0) algorithm (reading_of said)
 
 -- why a text isn't admitted, want of memory aside
 pub data Cause : Type 0 where
+  no_scheme : Cause
   no_key : Cause
+  of_http : HttpFault → Cause
   of_token : JwtFault → Cause
   unbuilt : Cause
 
 abbrev pub cause_of : Refusal → Option Cause
+cause_of refusal.NoScheme = Some no_scheme
 cause_of refusal.NoKey = Some no_key
+cause_of (refusal.Http error) = option_map of_http (http_fault error)
 cause_of (refusal.Token error) = option_map of_token (jwt_fault error)
 cause_of refusal.OutOfMemory = None
 cause_of refusal.Unbuilt = Some unbuilt
@@ -37,22 +51,48 @@ cause_of refusal.Unbuilt = Some unbuilt
 abbrev pub bad_signature : Cause
 bad_signature = of_token (jws (signature bad))
 
+-- ---- tokens
+
 -- the conditions of a token whose signature holds, in their order, and what is admitted
-unfoldable pub claimed_table : JwtDate → List ℕ → Header → List ℕ → Table Admission Cause
-claimed_table date name header payload = do
+unfoldable pub claimed_table : Validator → List ℕ → Header → List ℕ → Table Admission Cause
+claimed_table validator name header payload = do
   claims ← the (FirstClaimsOf payload) unbuilt
-  in_time ← need (IsBeforeEnd date claims.exp) (of_token (expired claims.exp date))
+  dates ← named of_token (dates_table validator claims.tree)
   done (token name header claims.tree)
 
 -- the same of a token whose key is known
-unfoldable pub judged_table : Relation → JwtDate → FirstText → NamedKey → Table Admission Cause
-judged_table signs date t key = do
-  vouched ← need (Vouched signs key.key t) bad_signature
-  claimed_table date key.name t.reading.header t.reading.payload
+unfoldable pub judged_table : Relation → Validator → FirstText → NamedKey → Table Admission Cause
+judged_table signs validator t key = do
+  vouched ← need (TokenVouched signs key.entry t) bad_signature
+  claimed_table validator key.name t.reading.header t.reading.payload
 
--- the same of a text
-unfoldable pub admits_table : Relation → TextMap RingEntry → List ℕ → JwtDate → Table Admission Cause
-admits_table signs ring text date = do
+-- the same of a token
+unfoldable pub token_table : Relation → TextMap RingEntry → Policy → List ℕ → Table Admission Cause
+token_table signs ring policy text = do
   t ← the (FirstTextOf text) unbuilt
+  lenient ← need (IsLenient policy.validator) unbuilt
   key ← the (IsKeyUnder ring t.reading.header.kid) no_key
-  judged_table signs date t key
+  judged_table signs policy.validator t key
+
+-- ---- header texts
+
+-- the conditions of a header text, over a request, in their order
+unfoldable pub header_table : Relation → TextMap RingEntry → Policy → Request → List ℕ → Table Admission Cause
+header_table signs ring policy asked text = do
+  r ← named of_http (reading_table text)
+  key ← the (IsKeyUnder ring (Some r.key_id)) no_key
+  checked ← named of_http (checked_table signs (public key.entry) key.algorithm (answers_of asked) policy.now policy.leeway r)
+  done (request key.name key.algorithm r)
+
+-- ---- all texts
+
+-- the conditions of a text of this kind
+abbrev pub scheme_table : Relation → TextMap RingEntry → Policy → Request → Scheme → Table Admission Cause
+scheme_table signs ring policy asked (bearer text) = token_table signs ring policy text
+scheme_table signs ring policy asked (header_text text) = header_table signs ring policy asked text
+
+-- the conditions of a text: it is of a kind, whose conditions hold
+unfoldable pub admits_table : Relation → TextMap RingEntry → Policy → Request → List ℕ → Table Admission Cause
+admits_table signs ring policy asked text = do
+  scheme ← the (IsScheme text) no_scheme
+  scheme_table signs ring policy asked scheme

@@ -1,7 +1,8 @@
 -- What the program says: its replies, their statuses and texts, and what is written of them (own).
-use Rattle.std.specs.Prelude.{◌≡◌, ◌⊎◌, ◌<◌, ◌≤◌, ℕ, List, [], ◌∷◌, ◌++◌, length, take, codes, Option, Result, OnOk, IsErrOf}
+use Rattle.std.specs.Prelude.{◌≡◌, ◌⊎◌, ◌<◌, ◌≤◌, ℕ, List, [], ◌∷◌, ◌++◌, length, take, codes, Option, Some, None, Result, OnOk, OnErr, IsErrOf}
 use Rattle.picky_contract.specs.Causes.{Rose}
 use Rattle.picky_gate.specs.declared.documents.Document.{Document}
+use Rattle.picky_gate.specs.declared.documents.Document.TheVariants.{Request}
 use Rattle.picky_gate.specs.declared.documents.Documents.{Documents}
 use Rattle.picky_gate.specs.declared.program.Unfetched.{Unfetched}
 use Rattle.picky_gate.specs.declared.program.Unfetched.TheVariants as unfetched
@@ -13,10 +14,17 @@ use Rattle.picky_gate.specs.Lines.{admitted_text, document_text, why_status, why
 use Rattle.picky_gate.specs.Outside.{IsFetched, Adds}
 use Rattle.picky_gate.specs.Run.{Contents, Run, FetchFailed, Asked, paths_of, paths_to}
 
+-- a document that was asked for where there is a path
+abbrev pub IsFetchedIf : Contents → Option Text → Option (List ℕ) → Type 0
+IsFetchedIf content None None = Unit {0}
+IsFetchedIf content (Some path) (Some bytes) = IsFetched (content path) limit bytes
+IsFetchedIf content _ _ = ⊥
+
 -- the documents that the fetches of a command bring
 pub record AreFetched (content : Contents) (c : Admit) (docs : Documents) : Type 0 where
   pub keys : IsFetched (content c.keys) limit docs.keys
   pub records : IsFetched (content c.records) limit docs.records
+  pub request : IsFetchedIf content c.request docs.request
 
 -- a fetch of a document failed only where the count of faults rose, and every other answer leaves the count
 pub record UnfetchedCause {T : Type 0} (before now : ℕ) (result : Result T Unfetched) : Type 0 where
@@ -31,6 +39,11 @@ pub record OneAsked {T : Type 0} (before : Option (List Text)) (path : Text) (do
   pub fetched : OnOk result (Adds before (path ∷ []) now)
   pub failed : (d : Document) → IsErrOf result (unfetched.Failed d) → (d ≡ document) × Adds before (path ∷ []) now
   pub memory : IsErrOf result unfetched.OutOfMemory → (now ≡ before) ⊎ Adds before (path ∷ []) now
+
+-- The fetch of a document that may be absent asked for its path, where there is one; and it says the request where it failed.
+abbrev pub OneAskedIf : {T : Type 0} → Option (List Text) → Option Text → Option (List Text) → Result T Unfetched → Type 0
+OneAskedIf before None now result = OnOk result (now ≡ before) × OnErr result ⊥
+OneAskedIf before (Some path) now result = OneAsked before path Request now result
 
 -- The fetches of a command's documents asked for all their paths, for those up to the document that failed, or,
 -- where memory is wanting, for a front of them.

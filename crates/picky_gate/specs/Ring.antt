@@ -3,6 +3,7 @@ use Rattle.std.specs.Prelude.{◌≡◌, ℕ, List, [], ◌∷◌, Option, Some,
 use Rattle.std.specs.List.{AllZip}
 use Rattle.std.specs.FinMap.{get, from_entries}
 use Rattle.picky_key.specs.declared.key.PublicKeyKind.{PublicKeyKind}
+use Rattle.picky_key.specs.declared.algorithm.SignatureAlgorithm.TheVariants.{Ed25519}
 use Rattle.picky_jwk.specs.Jwk.{Jwk, KeyType}
 use Rattle.picky_jwk.specs.Keys.{FirstKeysOf}
 use Rattle.picky_jwk.specs.Refusals.{key_table}
@@ -28,12 +29,12 @@ Named = List ℕ × RingEntry
 abbrev pub KeyOf : KeyType → PublicKeyKind → Type 0
 KeyOf k key = (key_table k).holds key
 
--- the entry of a key that has a name: its public key
+-- the entry of a key that has a name: its public key, under the algorithm of its family
 pub record EntryOf (k : Jwk) (e : Named) : Type 0 where
   pub key : PublicKeyKind
   pub kid : k.kid ≡ Some e.0
   pub is_key : KeyOf k.key key
-  pub entry : e.1 ≡ Verify key
+  pub entry : e.1 ≡ Verify key Ed25519
 
 -- the ring of entries
 abbrev pub ring_with : List Named → TextMap RingEntry

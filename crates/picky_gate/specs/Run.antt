@@ -1,8 +1,8 @@
 -- What a run saw: its words, its status, and what the cabinet and the sink tell before and after it (own).
-use Rattle.std.specs.Prelude.{ℕ, List, [], ◌∷◌, Option}
+use Rattle.std.specs.Prelude.{ℕ, List, [], ◌∷◌, Option, Some, None}
 use Rattle.picky_contract.specs.Causes.{Rose}
 use Rattle.picky_gate.specs.declared.documents.Document.{Document}
-use Rattle.picky_gate.specs.declared.documents.Document.TheVariants.{Keys, Records}
+use Rattle.picky_gate.specs.declared.documents.Document.TheVariants.{Keys, Records, Request}
 use Rattle.picky_gate.specs.Command.{Text, Admit}
 use Rattle.picky_gate.specs.Outside.{Adds}
 
@@ -43,11 +43,17 @@ Asked run paths = Adds run.asked.before paths run.asked.after
 abbrev pub Wrote : Run → List ℕ → Type 0
 Wrote run bytes = Adds run.written.before bytes run.written.after
 
+-- a path that may be absent
+abbrev pub given : Option Text → List Text
+given None = []
+given (Some path) = path ∷ []
+
 -- the paths of a command's documents, in the order in which they are fetched
 abbrev pub paths_of : Admit → List Text
-paths_of c = c.keys ∷ c.records ∷ []
+paths_of c = c.keys ∷ c.records ∷ given c.request
 
 -- those up to a document's
 abbrev pub paths_to : Document → Admit → List Text
 paths_to Keys c = c.keys ∷ []
 paths_to Records c = c.keys ∷ c.records ∷ []
+paths_to Request c = paths_of c

@@ -1,26 +1,31 @@
 // Whether a text is admitted.
-ghost use Rattle.std.specs.Prelude.{◌≡◌, ◌↔◌, IsTrue, None, IfOk, IfSome, string_bytes};
-ghost use Rattle.picky_contract.specs.Refusals.{Meets, OkOrMemory, Finds};
-ghost use Rattle.picky_jose.specs.Faults.{jws_fault};
-ghost use Rattle.picky_jose.specs.Refusals.{TokenReading, reading_of};
-ghost use Rattle.picky_jose.specs.Views.{header_view, jws_content, text_of};
-ghost use Rattle.picky_gate.specs.Admissible.{Admission, Admissible, FirstTextOf, IsKeyUnder};
-ghost use Rattle.picky_gate.specs.Refusals.{cause_of, admission_of, admits_table, judged_table, claimed_table};
-ghost use Rattle.picky_gate.specs.Seen.{first_text, key_view};
+ghost use Rattle.std.specs.Prelude.{◌≡◌, IfOk};
+ghost use Rattle.picky_contract.specs.Refusals.{Meets, OkOrMemory};
+ghost use Rattle.picky_http.specs.Lines.{request_of};
+ghost use Rattle.picky_gate.specs.Admissible.{Admission, Admissible};
+ghost use Rattle.picky_gate.specs.Refusals.{cause_of, admission_of, admits_table};
 
-use crate::bearer::signed_token;
-use crate::claims::first_claims;
+use crate::header::decide_header;
+use crate::scheme::{Scheme, scheme_of};
+use crate::token::decide_token;
 use crate::{KeyName, Policy, Ring};
-use picky_jose::{Jws, JwsError, JwsHeader, JwtError, JwtValidator, RawJws};
-use picky_key::{KeyProvider, PublicKey};
+use picky_http::{HttpSignature, HttpSignatureError};
+use picky_http_request::HttpRequest;
+use picky_jose::{JwsError, JwsHeader, JwtError};
+use picky_key::{KeyProvider, SignatureAlgorithm};
 use serde_json::Value;
 use std::alloc::{AllocError, Global};
-use std::borrow::CowStr;
 use thiserror::Error;
 
 /// What was admitted.
 #[derive(Debug, Drop)]
 pub enum Admitted {
+    /// A header text: the name of its key, the algorithm of the ring, and what the text says.
+    Request {
+        name: KeyName,
+        algorithm: SignatureAlgorithm,
+        signature: HttpSignature,
+    },
     /// A signed token: the name of its key, its header and its claims.
     Token {
         name: KeyName,
@@ -32,9 +37,15 @@ pub enum Admitted {
 /// Why a text isn't admitted.
 #[derive(Debug, Drop, Error)]
 pub enum Refusal {
+    /// The text begins with neither scheme word.
+    #[error("no such scheme")]
+    NoScheme,
     /// The ring has no key under the name that the text gives.
     #[error("no such key")]
     NoKey,
+    /// The header text is refused.
+    #[error("the header text is refused")]
+    Http(HttpSignatureError),
     /// The token is refused.
     #[error("the token is refused")]
     Token(JwtError),
@@ -52,6 +63,21 @@ impl From<AllocError> for Refusal {
 
     fn from(_error: AllocError) -> Refusal {
         Refusal::OutOfMemory
+    }
+}
+
+impl From<HttpSignatureError> for Refusal {
+    ghost use Rattle.std.specs.Prelude.{◌≡◌, option_map};
+    ghost use Rattle.picky_http.specs.Faults.{http_fault};
+    ghost use Rattle.picky_gate.specs.Refusals.{cause_of, of_http};
+
+    ghost from_gives = { λ error refusal. cause_of refusal ≡ option_map of_http (http_fault error) };
+
+    fn from(error: HttpSignatureError) -> Refusal {
+        match error {
+            HttpSignatureError::OutOfMemory => Refusal::OutOfMemory,
+            error => Refusal::Http(error),
+        }
     }
 }
 
@@ -88,136 +114,65 @@ impl From<JwsError> for Refusal {
     }
 }
 
-// Whether the error says that there was no memory.
-fn wants_memory(error: &JwsError) -> bool
-    ensures { IsTrue result ↔ (jws_fault error.now ≡ None) }
-{
-    matches!(error, JwsError::OutOfMemory)
-}
-
-// The token of a text, where the text has a first token reading.
-fn token_of<'a>(alloc: Global, text: &'a str) -> Result<Option<RawJws<'a>>, AllocError>
-    ensures { IfOk result (Finds first_text (FirstTextOf text.now)) }
-{
-    let Some(token) = signed_token(text) else {
-        return Ok(None);
-    };
-    match RawJws::decode(alloc, CowStr::Borrowed(token)) {
-        Ok(raw) => Ok(Some(raw)),
-        Err(error) => {
-            if wants_memory(&error) {
-                Err(AllocError)
-            } else {
-                Ok(None)
-            }
-        }
-    }
-}
-
-// The name and the key that a header's `kid` names.
-fn key_under<'a, 'b>(ring: &'a Ring, header: &'b JwsHeader) -> Option<(&'b str, &'a PublicKey)>
-    ensures { Finds key_view (IsKeyUnder ring.now (header_view header.now).kid) result }
-{
-    let Some(name) = &header.kid else {
-        return None;
-    };
-    let entry = ring.lookup(name.as_str())?;
-    Some((name.as_str(), entry.public_key()))
-}
-
-// What a verified token comes to.
-#[tactic(auto, unfolding(crate::specs::Refusals::claimed_table))]
-fn claimed(
-    alloc: Global,
-    name: KeyName,
-    jws: Jws,
-    validator: &JwtValidator,
-) -> Result<Admitted, Refusal>
-    ensures { Meets admission_of cause_of result
-        (claimed_table validator.now (string_bytes name.0) (jws_content jws).header (jws_content jws).payload) }
-{
-    let Some(claims) = first_claims(alloc, &jws.payload)? else {
-        return Err(Refusal::Unbuilt);
-    };
-    match validator.check_dates(&claims.tree) {
-        Ok(()) => Ok(Admitted::Token {
-            name,
-            header: jws.header,
-            claims: claims.tree,
-        }),
-        Err(error) => Err(Refusal::from(error)),
-    }
-}
-
-// What a token comes to under its key.
-#[tactic(auto, unfolding(crate::specs::Refusals::judged_table))]
-fn judged<P: KeyProvider>(
-    alloc: Global,
-    token: RawJws<'_>,
-    name: KeyName,
-    key: &PublicKey,
-    provider: &P,
-    validator: &JwtValidator,
-) -> Result<Admitted, Refusal>
-    requires { TokenReading (reading_of token) (text_of token) }
-    ensures { Meets admission_of cause_of result
-        (judged_table (P.signs provider.now) validator.now (first_text token.entry) (record { name = string_bytes name.0; key = key.now })) }
-{
-    match token.verify_as_read(alloc, provider, key) {
-        Ok(jws) => claimed(alloc, name, jws, validator),
-        Err(error) => Err(Refusal::from(error)),
-    }
-}
-
-#[tactic(auto, unfolding(crate::specs::Refusals::admits_table))]
-fn decide<P: KeyProvider>(
+// What a text comes to, by its kind.
+fn decide<P: KeyProvider, Q: HttpRequest>(
     alloc: Global,
     authorization: &str,
+    request: &Q,
     ring: &Ring,
     provider: &P,
     policy: &Policy,
 ) -> Result<Admitted, Refusal>
     ensures { Meets admission_of cause_of result
-        (admits_table (P.signs provider.now) ring.now authorization.now policy.entry.now.validator) }
+        (admits_table (P.signs provider.now) ring.now policy.entry.now (request_of Q.answer Q.method Q.target request.now) authorization.now) }
 {
-    let token = match token_of(alloc, authorization) {
-        Ok(Some(token)) => token,
-        Ok(None) => return Err(Refusal::Unbuilt),
-        Err(_) => return Err(Refusal::OutOfMemory),
+    let Some(scheme) = scheme_of(authorization) else {
+        return Err(Refusal::NoScheme);
     };
-    let Some((name, key)) = key_under(ring, &token.header) else {
-        return Err(Refusal::NoKey);
-    };
-    let name = KeyName(String::from_str(alloc, name)?);
-    judged(alloc, token, name, key, provider, &policy.validator)
+    match scheme {
+        Scheme::Token(text) => decide_token(alloc, text, ring, provider, policy),
+        Scheme::Header(text) => decide_header(alloc, text, request, ring, provider, policy),
+    }
 }
 
-/// Whether the text is admitted, over the ring, by the provider and under the policy.
+/// Whether the text is admitted, over the request and the ring, by the provider and under the policy. A token doesn't
+/// look at the request.
 ///
-/// Refusals, the first condition that fails: `Unbuilt` where the text has no first token reading;
-/// `NoKey` where its `kid` names no key of the ring; `Token` of `Jws` of `Signature` where the
-/// provider's relation doesn't hold; `Unbuilt` where the claims haven't the first form; `Token` of
-/// `Expired` where the validator's date isn't before `exp` plus its leeway. `OutOfMemory` may come
-/// instead.
-pub fn admit<P: KeyProvider>(
+/// Refusals, the first condition that fails: `NoScheme` where the text begins with neither `Bearer ` nor
+/// `Signature `.
+///
+/// Of a header text: `Http` of `InvalidParameter` for `created`, then `expires`; of `MissingRequiredParameter` for
+/// `signature`, then `keyId`; `NoKey` where the key id names no entry with an algorithm; `Http` of
+/// `IncompatibleAlgorithm` where a known algorithm isn't the entry's or not of its key's family; for `expires` of
+/// `MissingBuilderArgument` without a moment, then of `Expired`; for `created` likewise, then of `NotYetValid`; for each
+/// covered part, in order, of `MissingRequiredParameter` or `SigningStringGeneration`; of `Base64Decoding`; of
+/// `Signature` where the provider's relation doesn't hold.
+///
+/// Of a token: `Unbuilt` where it has no first token reading, or the
+/// policy's validator isn't lenient with a date; `NoKey` where its `kid` names no key of the ring; `Token` of
+/// `Jws` of `Signature` where the provider's relation doesn't hold; `Unbuilt` where the claims haven't the first
+/// form; `Token` of `Expired` where the validator's date isn't before `exp` plus its leeway. `OutOfMemory` may
+/// come instead.
+pub fn admit<P: KeyProvider, Q: HttpRequest>(
     alloc: Global,
     authorization: &str,
+    request: &Q,
     ring: &Ring,
     provider: &P,
     policy: &Policy,
 ) -> Result<Admitted, Refusal>
     // What is admitted is admissible.
     ensures found { IfOk result (λ a.
-        Admissible (P.signs provider.now) ring.now authorization.now policy.entry.now.validator (admission_of a)) }
+        Admissible (P.signs provider.now) ring.now policy.entry.now (request_of Q.answer Q.method Q.target request.now) authorization.now (admission_of a)) }
 
     // What is admissible is admitted, want of memory aside.
     ensures every { (a : Admission)
-        → Admissible (P.signs provider.now) ring.now authorization.now policy.entry.now.validator a
+        → Admissible (P.signs provider.now) ring.now policy.entry.now (request_of Q.answer Q.method Q.target request.now) authorization.now a
         → OkOrMemory admission_of cause_of result a }
 
     // A refusal is that of the first condition that fails.
     ensures first { Meets admission_of cause_of result
-        (admits_table (P.signs provider.now) ring.now authorization.now policy.entry.now.validator) }
+        (admits_table (P.signs provider.now) ring.now policy.entry.now (request_of Q.answer Q.method Q.target request.now) authorization.now) }
 {
-    decide(alloc, authorization, ring, provider, policy)
+    decide(alloc, authorization, request, ring, provider, policy)
 }

@@ -3,7 +3,7 @@ ghost use Rattle.std.specs.Prelude.{◌≡◌, ◌⊎◌, ◌≤◌, ◌+◌, �
 ghost use Rattle.std.specs.FinMap as finite;
 ghost use Rattle.picky_gate.specs.Command.{texts_of};
 ghost use Rattle.picky_gate.specs.Outside.{IsFetched, FetchCause, FetchAsks};
-ghost use Rattle.picky_gate.specs.Shelf.{counted, noted};
+ghost use Rattle.picky_gate.specs.Shelf.{counted, called, noted, FailsNext};
 
 use crate::text_map::{look_up, put};
 use picky_contract::Bytes;
@@ -46,7 +46,11 @@ pub trait Cabinet {
         ensures cause { FetchCause (faults self.old) (faults self.new) result };
 }
 
-fn first_bytes(alloc: Global, content: &[u8], limit: usize) -> Result<Vec<u8>, FetchFault>
+pub(crate) fn first_bytes(
+    alloc: Global,
+    content: &[u8],
+    limit: usize,
+) -> Result<Vec<u8>, FetchFault>
     ensures bytes { IfOk result (λ bytes. IsFetched (Some content.now) limit bytes.items) }
     ensures memory { IsOkUnless result FetchFault.OutOfMemory }
 {
@@ -62,7 +66,7 @@ fn first_bytes(alloc: Global, content: &[u8], limit: usize) -> Result<Vec<u8>, F
 }
 
 // Puts the path after those that were asked for. After an Err they are as before.
-fn note(alloc: Global, asked: &mut Vec<String>, path: &str) -> Result<(), AllocError>
+pub(crate) fn note(alloc: Global, asked: &mut Vec<String>, path: &str) -> Result<(), AllocError>
     ensures ok { OnOk result (texts_of asked.new.items ≡ texts_of asked.old.items ++ path.now ∷ []) }
     ensures err { OnErr result (texts_of asked.new.items ≡ texts_of asked.old.items) }
 {
@@ -71,14 +75,16 @@ fn note(alloc: Global, asked: &mut Vec<String>, path: &str) -> Result<(), AllocE
     Ok(())
 }
 
-/// A cabinet in memory, which tells its contents and what it was asked. A path that it doesn't hold is
-/// a fault.
+/// A cabinet in memory, which tells its contents and what it was asked. A path that it doesn't hold is a
+/// fault, and so is each call that it was told to fail.
 #[derive(Drop)]
 pub struct MemoryCabinet {
     alloc: Global,
     files: BTreeMap<String, Bytes>,
     asked: Vec<String>,
     faults: u64,
+    calls: u64,
+    failing: Vec<u64>,
 }
 
 impl Model for MemoryCabinet {
@@ -90,19 +96,21 @@ impl Model for MemoryCabinet {
 
     ghost coded = { shelf_code };
 
-    ghost view = { λ c. record { files = by_text c.files; asked = texts_of c.asked.items; faults = c.faults } };
+    ghost view = { λ c. record { files = by_text c.files; asked = texts_of c.asked.items; faults = c.faults; calls = c.calls; failing = c.failing.items } };
 }
 
 impl MemoryCabinet {
     /// An empty cabinet, without taking memory.
     pub fn new(alloc: Global) -> MemoryCabinet
-        ensures { result ≡ record { files = finite.empty; asked = []; faults = 0 } }
+        ensures { result ≡ record { files = finite.empty; asked = []; faults = 0; calls = 0; failing = [] } }
     {
         MemoryCabinet {
             alloc,
             files: BTreeMap::new(alloc),
             asked: Vec::new(alloc),
             faults: 0,
+            calls: 0,
+            failing: Vec::new(alloc),
         }
     }
 
@@ -113,6 +121,15 @@ impl MemoryCabinet {
     {
         let path = String::from_str(self.alloc, path)?;
         put(&mut self.files, path, Bytes::new(bytes))
+    }
+
+    /// Lets a call fail, counted from 1 over all that are made. After an Err all is as before.
+    pub fn fail_at(&mut self, call: u64) -> Result<(), AllocError>
+        ensures ok { OnOk result (self.new ≡ record self.old { failing = self.old.failing ++ call ∷ [] }) }
+        ensures err { OnErr result (self.new ≡ self.old) }
+    {
+        self.failing.push(call)?;
+        Ok(())
     }
 
     /// The paths that were asked for so far, in their order.
@@ -130,29 +147,37 @@ impl Cabinet for MemoryCabinet {
 
     ghost faults = { λ c. c.faults };
 
-    /// `Failed` only where the cabinet doesn't hold the path, and Ok only where it does.
+    /// `Failed` only where the cabinet doesn't hold the path or the call was to fail, and Ok only elsewhere.
     fn fetch(&mut self, alloc: Global, path: &str, limit: usize) -> Result<Vec<u8>, FetchFault>
         ensures bytes { IfOk result (λ bytes. IsFetched (finite.get self.old.files path.now) limit bytes.items) }
         ensures same { (p : List ℕ) → finite.get self.new.files p ≡ finite.get self.old.files p }
         ensures asks { FetchAsks (Some self.old.asked) path.now (Some self.new.asked) result }
         ensures cause { FetchCause self.old.faults self.new.faults result }
 
-        // Of a path that is held: its bytes or want of memory.
-        ensures held { (content : List ℕ) → finite.get self.old.files path.now ≡ Some content
+        // Of a path that is held, where the call isn't to fail: its bytes or want of memory.
+        ensures held { (content : List ℕ) → finite.get self.old.files path.now ≡ Some content → ¬ (FailsNext self.old)
             → IfOk result (λ bytes. bytes.items ≡ take (limit + 1) content) × IsOkUnless result FetchFault.OutOfMemory }
 
         // Of any other path: a fault or want of memory.
         ensures missing { finite.get self.old.files path.now ≡ None → IsErr result }
 
-        // Afterwards the path is noted, and a fault is counted; only where memory is wanting all may be as before.
+        // A call that is to fail: likewise.
+        ensures listed { FailsNext self.old → IsErr result }
+
+        // Afterwards the path is noted, and a fault is counted; only where memory is wanting the path may be missing.
         ensures fetched { OnOk result (self.new ≡ noted self.old path.now) }
         ensures failed { IsErrOf result FetchFault.Failed
             → self.new ≡ record (noted self.old path.now) { faults = counted self.old.faults } }
         ensures memory { IsErrOf result FetchFault.OutOfMemory
-            → (self.new ≡ self.old) ⊎ (self.new ≡ noted self.old path.now) }
+            → (self.new ≡ called self.old) ⊎ (self.new ≡ noted self.old path.now) }
     {
+        self.calls = self.calls.saturating_add(1);
         if note(self.alloc, &mut self.asked, path).is_err() {
             return Err(FetchFault::OutOfMemory);
+        }
+        if self.failing.contains(&self.calls) {
+            self.faults = self.faults.saturating_add(1);
+            return Err(FetchFault::Failed);
         }
         match look_up(&self.files, path) {
             Some(content) => first_bytes(alloc, content.as_slice(), limit),

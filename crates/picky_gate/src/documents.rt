@@ -1,14 +1,17 @@
 // The documents of a command, and what the command comes to over them.
-ghost use Rattle.std.specs.Prelude.{◌≡◌};
+ghost use Rattle.std.specs.Prelude.{◌≡◌, option_map};
+ghost use Rattle.picky_http_request.specs.Heads.{head_view};
+ghost use Rattle.picky_http.specs.Lines.{request_of};
 ghost use Rattle.picky_contract.specs.Refusals.{Meets};
 ghost use Rattle.picky_gate.specs.Asked.{admit_of};
 ghost use Rattle.picky_gate.specs.Faults.{flaw_of, why_of};
-ghost use Rattle.picky_gate.specs.Documents.{text_table, records_table, keys_table, text_decision, keys_decision, decision};
+ghost use Rattle.picky_gate.specs.Documents.{text_table, records_table, keys_table, head_table, request_table, text_decision, request_decision, keys_decision, decision};
 ghost use Rattle.picky_gate.specs.Refusals.{admission_of};
 
 use crate::first_ring::first_ring;
 use crate::{AdmitWords, Admitted, Refusal, Ring, admit};
 use picky_contract::Bytes;
+use picky_http_request::{HeadFault, HttpRequest, NoRequest, RequestHead, read_head};
 use picky_jwk::JwkError;
 use picky_key::{RecordFault, Recorded};
 use std::alloc::{AllocError, Global};
@@ -22,6 +25,7 @@ pub const LIMIT: usize = 1_048_576;
 pub enum Document {
     Keys,
     Records,
+    Request,
 }
 
 /// The bytes of the documents that a command names, each cut after one byte above the limit.
@@ -29,6 +33,7 @@ pub enum Document {
 pub struct Documents {
     pub keys: Bytes,
     pub records: Bytes,
+    pub request: Option<Bytes>,
 }
 
 /// What is wrong with a document.
@@ -38,6 +43,7 @@ pub enum DocumentFault {
     Utf8,
     Jwk(JwkError),
     Records(RecordFault),
+    Head(HeadFault),
     OutOfMemory,
 }
 
@@ -100,6 +106,19 @@ fn read_keys(alloc: Global, document: &[u8]) -> Result<Ring, DocumentFault>
     }
 }
 
+#[tactic(auto, unfolding(crate::specs::Documents::head_table))]
+fn read_request(alloc: Global, document: &[u8]) -> Result<RequestHead, DocumentFault>
+    ensures { Meets head_view flaw_of result (head_table document.now) }
+{
+    if document.len() > LIMIT {
+        return Err(DocumentFault::TooLong);
+    }
+    match read_head(alloc, document) {
+        Ok(head) => Ok(head),
+        Err(fault) => Err(DocumentFault::Head(fault)),
+    }
+}
+
 // The provider of a records document.
 fn provider_in(alloc: Global, document: &Bytes) -> Result<Recorded, DocumentFault>
     ensures { Meets (λ p. p) flaw_of result (records_table document.now) }
@@ -114,18 +133,57 @@ fn ring_in(alloc: Global, document: &Bytes) -> Result<Ring, DocumentFault>
     read_keys(alloc, document.as_slice())
 }
 
-// What the command comes to over its text.
-fn decide_text(
+// The request of a request document, where there is one.
+fn request_in(alloc: Global, document: &Option<Bytes>) -> Result<Option<RequestHead>, DocumentFault>
+    ensures { Meets (option_map head_view) flaw_of result (request_table document.now) }
+{
+    match document {
+        None => Ok(None),
+        Some(document) => match read_request(alloc, document.as_slice()) {
+            Ok(head) => Ok(Some(head)),
+            Err(fault) => Err(fault),
+        },
+    }
+}
+
+// What the command comes to over its text and a request.
+fn decide_text<Q: HttpRequest>(
     alloc: Global,
     words: AdmitWords<'_>,
     provider: &Recorded,
     ring: &Ring,
+    request: &Q,
 ) -> Result<Admitted, Fault>
-    ensures { Meets admission_of why_of result (text_decision (admit_of words.entry) provider.now ring.now) }
+    ensures { Meets admission_of why_of result (text_decision (admit_of words.entry) provider.now ring.now (request_of Q.answer Q.method Q.target request.now)) }
 {
-    match admit(alloc, words.text, ring, provider, &words.policy()) {
+    match admit(alloc, words.text, request, ring, provider, &words.policy()) {
         Ok(admitted) => Ok(admitted),
         Err(refusal) => Err(Fault::Refused(refusal)),
+    }
+}
+
+// What the command comes to from the request on.
+fn decide_from_request(
+    alloc: Global,
+    words: AdmitWords<'_>,
+    documents: &Documents,
+    provider: &Recorded,
+    ring: &Ring,
+) -> Result<Admitted, Fault>
+    ensures { Meets admission_of why_of result (request_decision (admit_of words.entry) documents.now provider.now ring.now) }
+{
+    let request = match request_in(alloc, &documents.request) {
+        Ok(request) => request,
+        Err(fault) => {
+            return Err(Fault::Bad {
+                document: Document::Request,
+                fault,
+            });
+        }
+    };
+    match &request {
+        None => decide_text(alloc, words, provider, ring, &NoRequest),
+        Some(head) => decide_text(alloc, words, provider, ring, head),
     }
 }
 
@@ -147,7 +205,7 @@ fn decide_from_keys(
             });
         }
     };
-    decide_text(alloc, words, provider, &ring)
+    decide_from_request(alloc, words, documents, provider, &ring)
 }
 
 /// What the command comes to over its documents.

@@ -1,15 +1,14 @@
 // The ring of a keys document of the first form.
-ghost use Rattle.std.specs.Prelude.{◌≡◌, ◌↔◌, IsTrue, None, IfOk, map};
+ghost use Rattle.std.specs.Prelude.{IfOk, map};
 ghost use Rattle.std.specs.List.{AllZip};
 ghost use Rattle.picky_contract.specs.Refusals.{Finds};
 ghost use Rattle.picky_jwk.specs.Jwk.{jwk_view, jwks_view};
-ghost use Rattle.picky_jwk.specs.Refusals.{fault};
 ghost use Rattle.picky_gate.specs.Ring.{KeyOf, EntryOf, Holds, RingOf, FirstRingOf};
 ghost use Rattle.picky_gate.specs.Seen.{named_entry};
 
 use crate::{KeyName, KeysFault, Ring, RingEntry};
-use picky_jwk::{Jwk, JwkError, JwkSet};
-use picky_key::PublicKey;
+use picky_jwk::{Jwk, JwkSet};
+use picky_key::{PublicKey, SignatureAlgorithm};
 use std::alloc::{AllocError, Global};
 
 /// An entry of a ring and its name.
@@ -19,19 +18,13 @@ pub struct NamedEntry {
     pub entry: RingEntry,
 }
 
-fn wants_memory(error: &JwkError) -> bool
-    ensures { IsTrue result ↔ (fault error.now ≡ None) }
-{
-    matches!(error, JwkError::OutOfMemory)
-}
-
 fn key_of(alloc: Global, jwk: &Jwk) -> Result<Option<PublicKey>, AllocError>
     ensures { IfOk result (Finds (λ k. k) (KeyOf (jwk_view jwk.now).key)) }
 {
     match jwk.to_public_key(alloc) {
         Ok(key) => Ok(Some(key)),
         Err(error) => {
-            if wants_memory(&error) {
+            if error.is_out_of_memory() {
                 Err(AllocError)
             } else {
                 Ok(None)
@@ -51,7 +44,10 @@ fn entry_of(alloc: Global, jwk: &Jwk) -> Result<Option<NamedEntry>, AllocError>
     };
     Ok(Some(NamedEntry {
         name: KeyName(String::from_str(alloc, kid.as_str())?),
-        entry: RingEntry::Verify { key },
+        entry: RingEntry::Verify {
+            key,
+            algorithm: SignatureAlgorithm::Ed25519,
+        },
     }))
 }
 
@@ -100,7 +96,7 @@ pub fn first_ring(alloc: Global, text: &str) -> Result<Option<Ring>, AllocError>
     match JwkSet::from_json(alloc, text) {
         Ok(set) => ring_of(alloc, &set.keys),
         Err(error) => {
-            if wants_memory(&error) {
+            if error.is_out_of_memory() {
                 Err(AllocError)
             } else {
                 Ok(None)

@@ -6,26 +6,30 @@
 
 mod admission;
 mod asked;
-mod bearer;
 mod cabinet;
 mod claims;
 mod documents;
 mod files;
 mod first_ring;
+mod fixed;
+mod header;
 pub mod laws;
 mod lines;
 mod policy;
 mod program;
 mod ring;
+mod scheme;
 mod sink;
 mod stdio;
 mod text_map;
+mod token;
 mod words;
 
 pub use admission::{Admitted, Refusal, admit};
 use asked::AdmitWords;
 pub use cabinet::{Cabinet, FetchFault, MemoryCabinet};
 pub use files::FileCabinet;
+pub use fixed::FixedCabinet;
 pub use policy::Policy;
 pub use program::{Status, run};
 pub use ring::{KeyName, KeysFault, Ring, RingEntry};

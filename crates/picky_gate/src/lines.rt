@@ -1,19 +1,27 @@
 // What is printed.
-ghost use Rattle.std.specs.Prelude.{◌≡◌, IfOk, IsSomeAnd, string_bytes};
+ghost use Rattle.std.specs.Prelude.{◌≡◌, ◌∷◌, ◌++◌, IfOk, OnOk, IsSomeAnd, map, string_bytes};
 ghost use Rattle.serde_json.specs.View.{view};
+ghost use Rattle.picky_json.specs.Text.{json_text};
 ghost use Rattle.picky_json.specs.Tree.{FloatFree};
+ghost use Rattle.picky_http_request.specs.Answers.{request_fault};
+ghost use Rattle.picky_http.specs.Faults.{http_fault, no_line};
+ghost use Rattle.picky_http.specs.Parts.{part_of, covered};
+ghost use Rattle.picky_http.specs.Reading.{reading_of};
+ghost use Rattle.picky_http.specs.Signing.{part_text};
 ghost use Rattle.picky_jose.specs.Faults.{jws_fault, jwt_fault};
 ghost use Rattle.picky_jwk.specs.Refusals.{fault as jwk_fault};
 ghost use Rattle.picky_gate.specs.Faults.{flaw_of, why_of, bad, refused};
-ghost use Rattle.picky_gate.specs.Lines.{token_text, admitted_text, claims_of, document_text, jws_text, jwt_text, cause_text, why_status, why_text};
+ghost use Rattle.picky_gate.specs.Lines.{number_text as number_of, texts_json, request_text, http_text, token_text, admitted_text, IsPrintable, document_text, jws_text, jwt_text, cause_text, why_status, why_text};
 ghost use Rattle.picky_gate.specs.Refusals.{admission_of, cause_of};
 
 use crate::documents::{Document, DocumentFault, Fault};
 use crate::{Admitted, Refusal};
+use picky_http::{Header, HttpSignature, HttpSignatureError};
+use picky_http_request::{HeadFault, HttpRequestError};
 use picky_jose::{JwsError, JwtError};
 use picky_json::{compact, json_text_of};
 use picky_jwk::{JwkError, JwsAlg};
-use picky_key::RecordFault;
+use picky_key::{RecordFault, SignatureAlgorithm};
 use serde_json::Value;
 use std::alloc::{AllocError, Global};
 
@@ -24,6 +32,7 @@ pub fn document_name(document: Document) -> &'static str
     match document {
         Document::Keys => "keys",
         Document::Records => "records",
+        Document::Request => "request",
     }
 }
 
@@ -37,9 +46,69 @@ fn token_lines(alloc: Global, name: &str, alg: JwsAlg, claims: &Value) -> Result
     format!(in alloc; "admitted {name}\ntoken {alg} {claims}\n")
 }
 
+// A number, or `-` where there is none.
+fn number_text(alloc: Global, number: Option<u64>) -> Result<String, AllocError>
+    ensures { IfOk result (λ text. string_bytes text ≡ number_of number) }
+{
+    match number {
+        Some(number) => format!(in alloc; "{number}"),
+        None => String::from_str(alloc, "-"),
+    }
+}
+
+fn push_json(alloc: Global, out: &mut String, text: &str) -> Result<(), AllocError>
+    ensures { OnOk result (string_bytes out.new ≡ string_bytes out.old ++ json_text text.now) }
+{
+    let json = json_text_of(alloc, text)?;
+    out.push_str(&json)?;
+    Ok(())
+}
+
+// The texts of a part and of those after it, as a list.
+fn list_text(alloc: Global, first: &Header, later: &[Header]) -> Result<String, AllocError>
+    ensures { IfOk result (λ text. string_bytes text ≡ texts_json (part_text (part_of first.now) ∷ map part_text (map part_of later.now))) }
+{
+    let mut out = String::from_str(alloc, "[")?;
+    push_json(alloc, &mut out, first.as_str())?;
+    let mut rest = later;
+    while let [header, after @ ..] = rest {
+        out.push_str(",")?;
+        push_json(alloc, &mut out, header.as_str())?;
+        rest = after;
+    }
+    out.push_str("]")?;
+    Ok(out)
+}
+
+// The covered parts as a list of texts.
+fn parts_text(alloc: Global, headers: &[Header]) -> Result<String, AllocError>
+    ensures { IfOk result (λ text. string_bytes text ≡ texts_json (map part_text (covered (map part_of headers.now)))) }
+{
+    match headers {
+        [] => list_text(alloc, &Header::Created, &[]),
+        [first, later @ ..] => list_text(alloc, first, later),
+    }
+}
+
+fn request_lines(
+    alloc: Global,
+    name: &str,
+    algorithm: SignatureAlgorithm,
+    signature: &HttpSignature,
+) -> Result<String, AllocError>
+    ensures { IfOk result (λ text. string_bytes text ≡ request_text name.now algorithm (reading_of signature.now)) }
+{
+    let name = json_text_of(alloc, name)?;
+    let algorithm = algorithm.word();
+    let parts = parts_text(alloc, &signature.headers)?;
+    let created = number_text(alloc, signature.created)?;
+    let expires = number_text(alloc, signature.expires)?;
+    format!(in alloc; "admitted {name}\nrequest {algorithm} {parts} {created} {expires}\n")
+}
+
 /// The two lines of what was admitted.
 pub fn admitted_lines(alloc: Global, admitted: &Admitted) -> Result<String, AllocError>
-    requires { FloatFree (claims_of (admission_of admitted.now)) }
+    requires { IsPrintable (admission_of admitted.now) }
     ensures { IfOk result (λ text. string_bytes text ≡ admitted_text (admission_of admitted.now)) }
 {
     match admitted {
@@ -48,6 +117,11 @@ pub fn admitted_lines(alloc: Global, admitted: &Admitted) -> Result<String, Allo
             header,
             claims,
         } => token_lines(alloc, name.0.as_str(), header.alg, claims),
+        Admitted::Request {
+            name,
+            algorithm,
+            signature,
+        } => request_lines(alloc, name.0.as_str(), *algorithm, signature),
     }
 }
 
@@ -72,10 +146,40 @@ fn jwt_code(error: &JwtError) -> Result<&'static str, AllocError>
         JwtError::Jws { source } => jws_code(source),
         JwtError::Json => Ok("Jwt.Json"),
         JwtError::InvalidRegisteredClaimType { .. } => Ok("Jwt.InvalidRegisteredClaimType"),
+        JwtError::RequiredClaimMissing { .. } => Ok("Jwt.RequiredClaimMissing"),
         JwtError::NotYetValid { .. } => Ok("Jwt.NotYetValid"),
         JwtError::Expired { .. } => Ok("Jwt.Expired"),
+        JwtError::InvalidValidator { .. } => Ok("Jwt.InvalidValidator"),
         JwtError::Float => Ok("Jwt.Float"),
         JwtError::OutOfMemory => Err(AllocError),
+    }
+}
+
+fn http_code(error: &HttpSignatureError) -> Result<&'static str, AllocError>
+    ensures { IfOk result (λ code. IsSomeAnd (http_fault error.now) (λ fault. code.now ≡ http_text fault)) }
+{
+    match error {
+        HttpSignatureError::Base64Decoding => Ok("Http.Base64Decoding"),
+        HttpSignatureError::NotYetValid { .. } => Ok("Http.NotYetValid"),
+        HttpSignatureError::Expired { .. } => Ok("Http.Expired"),
+        HttpSignatureError::Signature { .. } => Ok("Http.Signature"),
+        HttpSignatureError::SigningStringGeneration { source } => line_code(source),
+        HttpSignatureError::MissingBuilderArgument { .. } => Ok("Http.MissingBuilderArgument"),
+        HttpSignatureError::MissingRequiredParameter { .. } => {
+            Ok("Http.MissingRequiredParameter")
+        }
+        HttpSignatureError::InvalidParameter { .. } => Ok("Http.InvalidParameter"),
+        HttpSignatureError::IncompatibleAlgorithm { .. } => Ok("Http.IncompatibleAlgorithm"),
+        HttpSignatureError::OutOfMemory => Err(AllocError),
+    }
+}
+
+fn line_code(error: &HttpRequestError) -> Result<&'static str, AllocError>
+    ensures { IfOk result (λ code. IsSomeAnd (request_fault error.now) (λ fault. code.now ≡ http_text (no_line fault))) }
+{
+    match error {
+        HttpRequestError::OutOfMemory => Err(AllocError),
+        _ => Ok("Http.SigningStringGeneration"),
     }
 }
 
@@ -83,7 +187,9 @@ fn refusal_code(refusal: &Refusal) -> Result<&'static str, AllocError>
     ensures { IfOk result (λ code. IsSomeAnd (cause_of refusal.now) (λ cause. code.now ≡ cause_text cause)) }
 {
     match refusal {
+        Refusal::NoScheme => Ok("NoScheme"),
         Refusal::NoKey => Ok("NoKey"),
+        Refusal::Http(error) => http_code(error),
         Refusal::Token(error) => jwt_code(error),
         Refusal::OutOfMemory => Err(AllocError),
         Refusal::Unbuilt => Ok("Unbuilt"),
@@ -112,8 +218,10 @@ fn bad_line(alloc: Global, document: Document, fault: &DocumentFault) -> Result<
         }
         DocumentFault::Jwk(JwkError::Unbuilt) => format!(in alloc; "bad {name} Jwk.Unbuilt\n"),
         DocumentFault::Records(RecordFault::Unbuilt) => format!(in alloc; "bad {name} Unbuilt\n"),
+        DocumentFault::Head(HeadFault::BadHead) => format!(in alloc; "bad {name} BadHead\n"),
         DocumentFault::Jwk(JwkError::OutOfMemory)
         | DocumentFault::Records(RecordFault::OutOfMemory)
+        | DocumentFault::Head(HeadFault::OutOfMemory)
         | DocumentFault::OutOfMemory => Err(AllocError),
     }
 }

@@ -1,5 +1,5 @@
 // The program over any cabinet and any sink.
-ghost use Rattle.std.specs.Prelude.{◌≡◌, ◌≢◌, ◌⊎◌, ◌≤◌, ◌<◌, ℕ, List, IfOk, length, string_bytes};
+ghost use Rattle.std.specs.Prelude.{◌≡◌, ◌≢◌, ◌⊎◌, ◌≤◌, ◌<◌, ℕ, List, IfOk, length, option_map, string_bytes};
 ghost use Rattle.picky_contract.specs.Causes.{Rose};
 ghost use Rattle.picky_gate.specs.Admissible.{Admission};
 ghost use Rattle.picky_gate.specs.Asked.{admit_of};
@@ -8,7 +8,7 @@ ghost use Rattle.picky_gate.specs.Documents.{limit};
 ghost use Rattle.picky_gate.specs.Lines.{admitted_text};
 ghost use Rattle.picky_gate.specs.Outcome.{Outcome};
 ghost use Rattle.picky_gate.specs.Outside.{IsFetched, Adds};
-ghost use Rattle.picky_gate.specs.Reply.{AreFetched, UnfetchedCause, OneAsked, AllAsked, Delivers, Replies, Said, reply_text, unread};
+ghost use Rattle.picky_gate.specs.Reply.{IsFetchedIf, AreFetched, UnfetchedCause, OneAsked, OneAskedIf, AllAsked, Delivers, Replies, Said, reply_text, unread};
 
 use crate::documents::{Document, Documents, LIMIT, decide};
 use crate::lines::{admitted_lines, fault_line};
@@ -49,6 +49,25 @@ fn fetch_one<C: Cabinet>(
     }
 }
 
+// The document under a path that may be absent.
+fn fetch_request<C: Cabinet>(
+    alloc: Global,
+    cabinet: &mut C,
+    path: Option<&str>,
+) -> Result<Option<Bytes>, Unfetched>
+    ensures bytes { IfOk result (λ bytes. IsFetchedIf (C.content cabinet.old) (option_map (λ p. p.now) path.entry) bytes) }
+    ensures asks { OneAskedIf (C.asked cabinet.old) (option_map (λ p. p.now) path.entry) (C.asked cabinet.new) result }
+    ensures cause { UnfetchedCause (C.faults cabinet.old) (C.faults cabinet.new) result }
+{
+    match path {
+        None => Ok(None),
+        Some(path) => match fetch_one(alloc, cabinet, path, Document::Request) {
+            Ok(bytes) => Ok(Some(bytes)),
+            Err(unfetched) => Err(unfetched),
+        },
+    }
+}
+
 // Fetches the documents in their order, up to the first that fails.
 fn fetch_documents<C: Cabinet>(
     alloc: Global,
@@ -67,7 +86,15 @@ fn fetch_documents<C: Cabinet>(
         Ok(records) => records,
         Err(unfetched) => return Err(unfetched),
     };
-    Ok(Documents { keys, records })
+    let request = match fetch_request(alloc, cabinet, words.request) {
+        Ok(request) => request,
+        Err(unfetched) => return Err(unfetched),
+    };
+    Ok(Documents {
+        keys,
+        records,
+        request,
+    })
 }
 
 // Writes the text, and says the status.
@@ -91,6 +118,7 @@ fn unread_line(document: Document) -> &'static [u8]
     match document {
         Document::Keys => b"cannot read keys\n",
         Document::Records => b"cannot read records\n",
+        Document::Request => b"cannot read request\n",
     }
 }
 
@@ -150,8 +178,8 @@ fn perform<C: Cabinet, K: Sink>(
 
 /// The program: what the words ask, over the cabinet, into the sink.
 ///
-/// The words are a command, the documents are fetched (keys, then records) and checked (records, then
-/// keys), the text is judged, and the whole output is built before its first byte is written.
+/// The words are a command, the documents are fetched (keys, records, then the request where one is named) and
+/// checked (records, keys, then the request), the text is judged, and the whole output is built before its first byte is written.
 pub fn run<C: Cabinet, K: Sink>(
     alloc: Global,
     words: &[String],

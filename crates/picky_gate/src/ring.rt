@@ -5,7 +5,7 @@ ghost use Rattle.std.specs.FinMap as finite;
 ghost use Rattle.picky_contract.specs.Refusals.{Meets, need};
 
 use crate::text_map::{look_up, put};
-use picky_key::PublicKey;
+use picky_key::{PublicKey, SignatureAlgorithm};
 use std::alloc::{AllocError, Global};
 use std::collections::BTreeMap;
 use std::marker::Model;
@@ -18,19 +18,31 @@ pub struct KeyName(pub String);
 /// What a ring holds under a name.
 #[derive(Debug, Drop)]
 pub enum RingEntry {
-    /// A public key.
-    Verify { key: PublicKey },
+    /// A public key, and the algorithm that signatures are checked with under it.
+    Verify {
+        key: PublicKey,
+        algorithm: SignatureAlgorithm,
+    },
 }
 
 impl RingEntry {
-    ghost use Rattle.picky_gate.specs.Entry.{public};
+    ghost use Rattle.picky_gate.specs.Entry.{public, algorithm_of};
 
     // The key that signatures are checked under.
     pub(crate) fn public_key(&self) -> &PublicKey
         ensures { result.now ≡ public self.now }
     {
         match self {
-            RingEntry::Verify { key } => key,
+            RingEntry::Verify { key, .. } => key,
+        }
+    }
+
+    // The algorithm that the ring gives the entry.
+    pub(crate) fn signature_algorithm(&self) -> Option<SignatureAlgorithm>
+        ensures { result ≡ algorithm_of self.now }
+    {
+        match self {
+            RingEntry::Verify { algorithm, .. } => Some(*algorithm),
         }
     }
 }

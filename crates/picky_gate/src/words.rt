@@ -1,10 +1,11 @@
 // The words of the command line.
-ghost use Rattle.std.specs.Prelude.{◌≡◌, ◌↔◌, ℕ, IsTrue, MatchOption, codes};
+ghost use Rattle.std.specs.Prelude.{◌≡◌, ◌↔◌, ℕ, Option, option_map, IsTrue, MatchOption, codes};
 ghost use Rattle.std.specs.Str.{all_ascii_digits};
-ghost use Rattle.picky_gate.specs.Command.{Admit, IsCommand, AsksAdmit, ArePairs, IsFlag, IsMoment, texts_of, values_under};
-ghost use Rattle.picky_gate.specs.Asked.{AreValues, admit_of};
+ghost use Rattle.picky_gate.specs.Command.{Text, Admit, IsCommand, AsksAdmit, ArePairs, IsFlag, IsNumber, IsMoment, IsLeeway, IsItself, StandsOnce, StandsAtMostOnce, texts_of, values_under};
+ghost use Rattle.picky_gate.specs.Asked.{AreValues, admit_of, seconds_of};
 
 use crate::AdmitWords;
+use crate::asked::Moment;
 
 /// How many values stand under a flag, and the value where there is one.
 #[derive(Clone, Copy)]
@@ -34,7 +35,12 @@ fn values_of<'a>(words: &'a [String], flag: &str) -> Values<'a>
 fn is_flag(name: &str) -> bool
     ensures { IsTrue result ↔ IsFlag name.now }
 {
-    name == "--keys" || name == "--records" || name == "--text" || name == "--now"
+    name == "--keys"
+        || name == "--records"
+        || name == "--text"
+        || name == "--request"
+        || name == "--now"
+        || name == "--leeway"
 }
 
 fn are_pairs(words: &[String]) -> bool
@@ -63,18 +69,90 @@ fn are_digits(text: &str) -> bool
     true
 }
 
-/// The greatest moment, 2^63 - 1.
+/// The greatest moment in seconds, 2^63 - 1.
 const LAST_MOMENT: u64 = 9_223_372_036_854_775_807;
 
-fn read_moment(text: &str) -> Option<u64>
-    ensures { MatchOption result ((n : ℕ) → IsMoment text.now n → ⊥) (λ n. IsMoment text.now n) }
+// The number that 1 to `most` digits write, where it is at most `last`.
+fn read_number(text: &str, most: usize, last: u64) -> Option<u64>
+    ensures { MatchOption result ((n : ℕ) → IsNumber most last text.now n → ⊥) (λ n. IsNumber most last text.now n) }
 {
-    if text.is_empty() || text.len() > 19 || !are_digits(text) {
+    if text.is_empty() || text.len() > most || !are_digits(text) {
         return None;
     }
     match text.parse::<u64>() {
-        Ok(moment) if moment <= LAST_MOMENT => Some(moment),
+        Ok(number) if number <= last => Some(number),
         _ => None,
+    }
+}
+
+fn read_moment(text: &str) -> Option<Moment>
+    ensures { MatchOption result ((n : ℕ) → IsMoment text.now n → ⊥) (λ m. IsMoment text.now m.seconds) }
+{
+    let seconds = read_number(text, 19, LAST_MOMENT)?;
+    Some(Moment { seconds })
+}
+
+fn read_leeway(text: &str) -> Option<u16>
+    ensures { MatchOption result ((n : ℕ) → IsLeeway text.now n → ⊥) (λ n. IsLeeway text.now n) }
+{
+    let seconds = read_number(text, 5, 65_535)?;
+    Some(seconds as u16)
+}
+
+// The value of a flag that stands exactly once.
+fn once<'a>(words: &'a [String], flag: &str) -> Option<&'a str>
+    ensures { MatchOption result
+        ((value : Text) → StandsOnce flag.now (texts_of words.now) value → ⊥)
+        (λ value. StandsOnce flag.now (texts_of words.now) value.now) }
+{
+    match values_of(words, flag) {
+        Values::One(value) => Some(value),
+        _ => None,
+    }
+}
+
+// The value of a flag that stands at most once; none in the outer place where it stands twice.
+fn at_most_once<'a>(words: &'a [String], flag: &str) -> Option<Option<&'a str>>
+    ensures { MatchOption result
+        ((value : Option Text) → StandsAtMostOnce IsItself flag.now (texts_of words.now) value → ⊥)
+        (λ value. StandsAtMostOnce IsItself flag.now (texts_of words.now) (option_map (λ t. t.now) value)) }
+{
+    match values_of(words, flag) {
+        Values::Absent => Some(None),
+        Values::One(value) => Some(Some(value)),
+        Values::Many => None,
+    }
+}
+
+// The moment of a flag that stands at most once; none in the outer place where the words aren't of the form.
+fn moment_under(words: &[String]) -> Option<Option<Moment>>
+    ensures { MatchOption result
+        ((n : Option ℕ) → StandsAtMostOnce IsMoment (codes "--now") (texts_of words.now) n → ⊥)
+        (λ m. StandsAtMostOnce IsMoment (codes "--now") (texts_of words.now) (seconds_of m)) }
+{
+    match values_of(words, "--now") {
+        Values::Absent => Some(None),
+        Values::One(value) => match read_moment(value) {
+            Some(moment) => Some(Some(moment)),
+            None => None,
+        },
+        Values::Many => None,
+    }
+}
+
+// The same of the leeway.
+fn leeway_under(words: &[String]) -> Option<Option<u16>>
+    ensures { MatchOption result
+        ((n : Option ℕ) → StandsAtMostOnce IsLeeway (codes "--leeway") (texts_of words.now) n → ⊥)
+        (λ n. StandsAtMostOnce IsLeeway (codes "--leeway") (texts_of words.now) n) }
+{
+    match values_of(words, "--leeway") {
+        Values::Absent => Some(None),
+        Values::One(value) => match read_leeway(value) {
+            Some(leeway) => Some(Some(leeway)),
+            None => None,
+        },
+        Values::Many => None,
     }
 }
 
@@ -87,24 +165,19 @@ fn read_admit(words: &[String]) -> Option<AdmitWords<'_>>
     if !are_pairs(words) {
         return None;
     }
-    let Values::One(keys) = values_of(words, "--keys") else {
-        return None;
-    };
-    let Values::One(records) = values_of(words, "--records") else {
-        return None;
-    };
-    let Values::One(text) = values_of(words, "--text") else {
-        return None;
-    };
-    let Values::One(digits) = values_of(words, "--now") else {
-        return None;
-    };
-    let now = read_moment(digits)?;
+    let keys = once(words, "--keys")?;
+    let records = once(words, "--records")?;
+    let text = once(words, "--text")?;
+    let request = at_most_once(words, "--request")?;
+    let now = moment_under(words)?;
+    let leeway = leeway_under(words)?;
     Some(AdmitWords {
         keys,
         records,
         text,
+        request,
         now,
+        leeway,
     })
 }
 

@@ -1,39 +1,75 @@
--- When claims are accepted by a lenient validator with a date (RFC 7519, sections 4.1.4, 4.1.5 and 7.2), and why not, in order.
-use Rattle.std.specs.Prelude.{◌≡◌, ⊤, ℕ, ℤ, List, codes, Option, Some, None}
+-- When claims are accepted by a validator (RFC 7519, sections 4.1.4, 4.1.5 and 7.2), and why not, in order.
+use Rattle.std.specs.Prelude.{◌≡◌, ⊤, ℕ, ℤ, List, codes, Option, Some, None, IsTrue}
 use Rattle.serde_json.specs.Data.{Data}
 use Rattle.picky_contract.specs.Refusals.{Table, the, need, done, ◌>>=◌}
 use Rattle.picky_json.specs.Tree.{Tree, FloatFree, member, integer}
 use Rattle.picky_jose.specs.declared.date.JwtDate.{JwtDate}
+use Rattle.picky_jose.specs.declared.date.ClaimCheck.{ClaimCheck}
+use Rattle.picky_jose.specs.declared.date.ClaimCheck.TheVariants.{Ignored, Optional, Required}
 use Rattle.picky_jose.specs.Dates.{IsAtOrAfterStart, IsBeforeEnd}
-use Rattle.picky_jose.specs.Faults.{JwtFault, no_json, no_integer, not_yet_valid, expired, has_float}
+use Rattle.picky_jose.specs.Faults.{JwtFault, no_json, no_integer, missing, not_yet_valid, expired, invalid_validator, has_float}
+use Rattle.picky_jose.specs.Validator.{Validator, can_judge}
 
 -- the tree is this integer in i64
 abbrev pub IsInteger : Data → ℤ → Type 0
 IsInteger t z = integer t ≡ Some z
 
--- an absent `nbf` passes
-abbrev pub nbf_table : JwtDate → Option Data → Table ⊤ JwtFault
-nbf_table d None = done tt
-nbf_table d (Some t) = do
+-- a start that is looked at: an absent one passes
+abbrev pub start_table : JwtDate → Option Data → Table ⊤ JwtFault
+start_table d None = done tt
+start_table d (Some t) = do
   nbf ← the (IsInteger t) (no_integer (codes "nbf"))
   need (IsAtOrAfterStart d nbf) (not_yet_valid nbf d)
 
--- an absent `exp` passes
-abbrev pub exp_table : JwtDate → Option Data → Table ⊤ JwtFault
-exp_table d None = done tt
-exp_table d (Some t) = do
+-- an end that is looked at: an absent one passes
+abbrev pub end_table : JwtDate → Option Data → Table ⊤ JwtFault
+end_table d None = done tt
+end_table d (Some t) = do
   exp ← the (IsInteger t) (no_integer (codes "exp"))
   need (IsBeforeEnd d exp) (expired exp d)
 
--- the dates of claims: `nbf`, then `exp`; claims that are no object have neither
-unfoldable pub dates_table : JwtDate → Data → Table ⊤ JwtFault
-dates_table d t = do
-  started ← nbf_table d (member (codes "nbf") t)
-  exp_table d (member (codes "exp") t)
+-- the claim is there
+abbrev pub IsThere : Option Data → Type 0
+IsThere o = ¬ (o ≡ None)
 
-unfoldable pub claims_table : JwtDate → List ℕ → Table Data JwtFault
-claims_table d payload = do
+-- `nbf`: one that is ignored isn't looked at, one that is required is there
+abbrev pub nbf_table : JwtDate → ClaimCheck → Option Data → Table ⊤ JwtFault
+nbf_table d Ignored o = done tt
+nbf_table d Optional o = start_table d o
+nbf_table d Required o = do
+  there ← need (IsThere o) (missing (codes "nbf"))
+  start_table d o
+
+-- `exp`, likewise
+abbrev pub exp_table : JwtDate → ClaimCheck → Option Data → Table ⊤ JwtFault
+exp_table d Ignored o = done tt
+exp_table d Optional o = end_table d o
+exp_table d Required o = do
+  there ← need (IsThere o) (missing (codes "exp"))
+  end_table d o
+
+-- the dates of claims at a date: `nbf`, then `exp`; claims that are no object have neither
+unfoldable pub dated_table : Validator → JwtDate → Data → Table ⊤ JwtFault
+dated_table v d t = do
+  started ← nbf_table d v.nbf (member (codes "nbf") t)
+  exp_table d v.exp (member (codes "exp") t)
+
+-- the dates of claims; without a date no claim is looked at
+abbrev pub rows_at : Validator → Data → Option JwtDate → Table ⊤ JwtFault
+rows_at v t None = done tt
+rows_at v t (Some d) = dated_table v d t
+
+abbrev pub dates_table : Validator → Data → Table ⊤ JwtFault
+dates_table v t = rows_at v t v.date
+
+-- the dates of claims meet the validator: all these rows hold
+abbrev pub AreInTime : Validator → Data → Type 0
+AreInTime v t = (dates_table v t).holds tt
+
+unfoldable pub claims_table : Validator → List ℕ → Table Data JwtFault
+claims_table v payload = do
+  can ← need (IsTrue (can_judge v.date v.nbf v.exp)) invalid_validator
   t ← the (Tree payload) no_json
   free ← need (FloatFree t) has_float
-  dates ← dates_table d t
+  dates ← dates_table v t
   done t

@@ -1,23 +1,11 @@
 -- What the errors of tokens say, want of memory aside (own).
 use Rattle.std.specs.Prelude.{ℕ, ℤ, List, Option, Some, None, option_map, string_bytes}
-use Rattle.picky_key.specs.declared.error.SignatureError.{SignatureError}
-use Rattle.picky_key.specs.declared.error.SignatureError.TheVariants as of_signature
+use Rattle.picky_key.specs.Signatures.{SignatureFault, signature_fault}
 use Rattle.picky_jose.specs.declared.error.JwsError.{JwsError}
 use Rattle.picky_jose.specs.declared.error.JwsError.TheVariants as of_jws
 use Rattle.picky_jose.specs.declared.error.JwtError.{JwtError}
 use Rattle.picky_jose.specs.declared.error.JwtError.TheVariants as of_jwt
 use Rattle.picky_jose.specs.declared.date.JwtDate.{JwtDate}
-
--- why a signature isn't accepted; sizes in bytes, expected and got
-pub data SignatureFault : Type 0 where
-  unsupported : SignatureFault
-  bad : SignatureFault
-  ec_size : ℕ → ℕ → SignatureFault
-
-abbrev pub signature_fault : SignatureError → SignatureFault
-signature_fault of_signature.UnsupportedAlgorithm = unsupported
-signature_fault of_signature.BadSignature = bad
-signature_fault (of_signature.Ec expected got) = ec_size expected got
 
 -- why a signed token isn't accepted
 pub data JwsFault : Type 0 where
@@ -40,16 +28,20 @@ pub data JwtFault : Type 0 where
   jws : JwsFault → JwtFault
   no_json : JwtFault
   no_integer : List ℕ → JwtFault
+  missing : List ℕ → JwtFault
   not_yet_valid : ℤ → JwtDate → JwtFault
   expired : ℤ → JwtDate → JwtFault
+  invalid_validator : JwtFault
   has_float : JwtFault
 
 abbrev pub jwt_fault : JwtError → Option JwtFault
 jwt_fault (of_jwt.Jws source) = option_map jws (jws_fault source)
 jwt_fault of_jwt.Json = Some no_json
 jwt_fault (of_jwt.InvalidRegisteredClaimType claim) = Some (no_integer claim.now)
+jwt_fault (of_jwt.RequiredClaimMissing claim) = Some (missing claim.now)
 jwt_fault (of_jwt.NotYetValid not_before now) = Some (not_yet_valid not_before now)
 jwt_fault (of_jwt.Expired not_after now) = Some (expired not_after now)
+jwt_fault (of_jwt.InvalidValidator description) = Some invalid_validator
 jwt_fault of_jwt.Float = Some has_float
 jwt_fault of_jwt.OutOfMemory = None
 

@@ -5,5 +5,6 @@ pub mod Refusals
 pub mod Signatures
 pub mod Views
 pub mod Dates
+pub mod Validator
 pub mod Claims
 pub mod laws

@@ -3,8 +3,8 @@ use Rattle.std.specs.Prelude.{◌≡◌, ℕ, List, length, ⊤, Option, Some, N
 use Rattle.picky_contract.specs.Refusals.{Table, the, need, named, ◌>>=◌}
 use Rattle.picky_base64.specs.Base64.{B64}
 use Rattle.picky_base64.specs.declared.Form.TheVariants.{Url}
+use Rattle.picky_key.specs.Signatures.{Relation, SignatureFault, unsupported, bad, ec_size, vouched_table}
 use Rattle.picky_key.specs.declared.key.PublicKeyKind.{PublicKeyKind}
-use Rattle.picky_key.specs.declared.algorithm.SignatureAlgorithm.{SignatureAlgorithm}
 use Rattle.picky_key.specs.declared.algorithm.SignatureAlgorithm.TheVariants.{RsaPkcs1v15, Ed25519}
 use Rattle.picky_key.specs.declared.algorithm.HashAlgorithm.TheVariants.{SHA2_256, SHA2_384, SHA2_512}
 use Rattle.picky_key.specs.declared.error.SignatureError.{SignatureError}
@@ -13,7 +13,7 @@ use Rattle.picky_jwk.specs.declared.alg.JwsAlg.TheVariants as alg
 use Rattle.picky_jose.specs.declared.signature.Asked.{Asked}
 use Rattle.picky_jose.specs.declared.signature.Asked.TheVariants.{Nothing, Plain, Numbers}
 use Rattle.picky_jose.specs.Token.{Halves, HalvesOf}
-use Rattle.picky_jose.specs.Faults.{SignatureFault, unsupported, bad, ec_size, JwsFault, signature, invalid_encoding, not_base64}
+use Rattle.picky_jose.specs.Faults.{JwsFault, signature, invalid_encoding, not_base64}
 
 -- what a name asks of a provider: nothing, where it has no signature algorithm; the signature as it
 -- stands, under an algorithm; or the two numbers of a signature of a size in bytes, under ECDSA
@@ -28,23 +28,19 @@ asked_by alg.EdDSA = Plain Ed25519
 asked_by alg.ED25519 = Plain Ed25519
 asked_by _ = Nothing
 
--- a signature relation: key, algorithm, message and signature
-abbrev pub Relation : Type 1
-Relation = PublicKeyKind → SignatureAlgorithm → List ℕ → List ℕ → Type 0
-
 -- The relation holds of the key, the name's algorithm, the signed bytes and the signature. Of an ECDSA
 -- name the size is looked at first; it has no more than that yet: no key so far is of the ECDSA family,
 -- and a relation holds only within a family.
-unfoldable pub vouched_table : Relation → PublicKeyKind → Asked → List ℕ → List ℕ → Table ⊤ SignatureFault
-vouched_table signs key Nothing signed s = need ⊥ unsupported
-vouched_table signs key (Plain algorithm) signed s = need (signs key algorithm signed s) bad
-vouched_table signs key (Numbers hash size) signed s = do
+unfoldable pub asked_table : Relation → PublicKeyKind → Asked → List ℕ → List ℕ → Table ⊤ SignatureFault
+asked_table signs key Nothing signed s = need ⊥ unsupported
+asked_table signs key (Plain algorithm) signed s = vouched_table signs key algorithm signed s
+asked_table signs key (Numbers hash size) signed s = do
   fits ← need (length s ≡ size) (ec_size size (length s))
   need ⊥ bad
 
--- the rows of `vouched_table`, as refusals of a token
+-- what a name asks, with its refusals as those of a token
 abbrev pub vouched_rows : Relation → PublicKeyKind → JwsAlg → List ℕ → List ℕ → Table ⊤ JwsFault
-vouched_rows signs key name signed s = named signature (vouched_table signs key (asked_by name) signed s)
+vouched_rows signs key name signed s = named signature (asked_table signs key (asked_by name) signed s)
 
 -- the text is signed: the bytes before its last dot, by what the text after it spells
 unfoldable pub signed_table : Relation → PublicKeyKind → JwsAlg → List ℕ → Table ⊤ JwsFault

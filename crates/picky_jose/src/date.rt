@@ -85,36 +85,178 @@ impl JwtDate {
     }
 }
 
-/// Which dates of claims hold. It is always lenient with a date, as which contracts see it: `nbf` and
-/// `exp` may be absent, and one that is there is compared with the date.
+// How a date of claims is checked.
+#[derive(Clone, Copy, Debug, PartialEq, Eq)]
+pub(crate) enum ClaimCheck {
+    // It isn't looked at.
+    Ignored,
+    // It may be absent.
+    Optional,
+    // It must be there.
+    Required,
+}
+
+/// Which dates of claims hold: a date, where there is one, and how `nbf` and `exp` are checked, as which
+/// contracts see it.
 #[derive(Clone, Copy, Debug)]
 pub struct JwtValidator {
-    current_date: JwtDate,
+    current_date: Option<JwtDate>,
+    not_before: ClaimCheck,
+    expiration: ClaimCheck,
 }
 
 impl Model for JwtValidator {
-    ghost use Rattle.picky_jose.specs.declared.date.JwtDate.{JwtDate};
+    ghost use Rattle.picky_jose.specs.Validator.{Validator};
 
-    ghost Value = { JwtDate };
+    ghost Value = { Validator };
 
-    ghost view = { λ v. v.current_date };
+    ghost view = { λ v. record { date = v.current_date; nbf = v.not_before; exp = v.expiration } };
 
-    ghost inverse = { λ d. record { current_date = d } };
+    ghost inverse = { λ v. record { current_date = v.date; not_before = v.nbf; expiration = v.exp } };
 }
 
 impl JwtValidator {
+    ghost use Rattle.picky_jose.specs.Validator as validator;
+    ghost use Rattle.picky_jose.specs.declared.date.ClaimCheck.TheVariants.{Ignored, Optional, Required};
+
+    /// The validator by which `nbf` and `exp` must be there, and are compared with the date.
+    pub const fn strict(current_date: JwtDate) -> JwtValidator
+        ensures { result ≡ validator.strict current_date }
+    {
+        JwtValidator {
+            current_date: Some(current_date),
+            not_before: ClaimCheck::Required,
+            expiration: ClaimCheck::Required,
+        }
+    }
+
     /// The validator by which an absent `nbf` or `exp` passes, and one that is there is compared with
     /// the date.
     pub const fn lenient(current_date: JwtDate) -> JwtValidator
-        ensures { result ≡ current_date }
+        ensures { result ≡ validator.lenient current_date }
     {
-        JwtValidator { current_date }
+        JwtValidator {
+            current_date: Some(current_date),
+            not_before: ClaimCheck::Optional,
+            expiration: ClaimCheck::Optional,
+        }
+    }
+
+    /// The validator without a date, which looks at no claim.
+    pub const fn no_check() -> JwtValidator
+        ensures { result ≡ validator.no_check }
+    {
+        JwtValidator {
+            current_date: None,
+            not_before: ClaimCheck::Ignored,
+            expiration: ClaimCheck::Ignored,
+        }
+    }
+
+    /// The same with this date, by which both claims must be there.
+    pub const fn current_date(self, current_date: JwtDate) -> JwtValidator
+        ensures { result ≡ validator.strict current_date }
+    {
+        JwtValidator::strict(current_date)
+    }
+
+    /// The same, by which `exp` must be there.
+    pub const fn expiration_check_required(self) -> JwtValidator
+        ensures { result ≡ record self { exp = Required } }
+    {
+        JwtValidator {
+            expiration: ClaimCheck::Required,
+            ..self
+        }
+    }
+
+    /// The same, by which an absent `exp` passes.
+    pub const fn expiration_check_optional(self) -> JwtValidator
+        ensures { result ≡ record self { exp = Optional } }
+    {
+        JwtValidator {
+            expiration: ClaimCheck::Optional,
+            ..self
+        }
+    }
+
+    /// The same, by which `exp` isn't looked at.
+    pub const fn expiration_check_ignored(self) -> JwtValidator
+        ensures { result ≡ record self { exp = Ignored } }
+    {
+        JwtValidator {
+            expiration: ClaimCheck::Ignored,
+            ..self
+        }
+    }
+
+    /// The same, by which `nbf` must be there.
+    pub const fn not_before_check_required(self) -> JwtValidator
+        ensures { result ≡ record self { nbf = Required } }
+    {
+        JwtValidator {
+            not_before: ClaimCheck::Required,
+            ..self
+        }
+    }
+
+    /// The same, by which an absent `nbf` passes.
+    pub const fn not_before_check_optional(self) -> JwtValidator
+        ensures { result ≡ record self { nbf = Optional } }
+    {
+        JwtValidator {
+            not_before: ClaimCheck::Optional,
+            ..self
+        }
+    }
+
+    /// The same, by which `nbf` isn't looked at.
+    pub const fn not_before_check_ignored(self) -> JwtValidator
+        ensures { result ≡ record self { nbf = Ignored } }
+    {
+        JwtValidator {
+            not_before: ClaimCheck::Ignored,
+            ..self
+        }
+    }
+
+    /// Whether there is a date, and an absent `nbf` or `exp` passes.
+    pub fn is_lenient(&self) -> bool
+        ensures { IsTrue result ↔ validator.IsLenient self.now }
+    {
+        self.current_date.is_some()
+            && self.not_before == ClaimCheck::Optional
+            && self.expiration == ClaimCheck::Optional
+    }
+
+    // Whether a claim is required only where there is a date.
+    pub(crate) fn can_judge(&self) -> bool
+        ensures { result ≡ validator.can_judge self.now.date self.now.nbf self.now.exp }
+    {
+        !matches!(
+            (self.current_date, self.not_before, self.expiration),
+            (None, ClaimCheck::Required, _) | (None, _, ClaimCheck::Required)
+        )
     }
 
     // The date.
-    pub(crate) fn date(&self) -> JwtDate
-        ensures { result ≡ self.now }
+    pub(crate) fn date(&self) -> Option<JwtDate>
+        ensures { result ≡ self.now.date }
     {
         self.current_date
+    }
+
+    // How `nbf` is checked.
+    pub(crate) fn not_before(&self) -> ClaimCheck
+        ensures { result ≡ self.now.nbf }
+    {
+        self.not_before
+    }
+
+    // How `exp` is checked.
+    pub(crate) fn expiration(&self) -> ClaimCheck
+        ensures { result ≡ self.now.exp }
+    {
+        self.expiration
     }
 }

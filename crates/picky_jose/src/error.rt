@@ -1,5 +1,6 @@
 // Errors of tokens.
-ghost use Rattle.std.specs.Prelude.{◌≡◌};
+ghost use Rattle.std.specs.Prelude.{◌≡◌, ◌↔◌, IsTrue, None};
+ghost use Rattle.picky_jose.specs.Faults.{jws_fault};
 
 use crate::date::JwtDate;
 use picky_key::{ProviderFault, SignatureError};
@@ -40,17 +41,32 @@ pub enum JwtError {
     /// A date of the claims isn't an integer in `i64`.
     #[error("registered claim {claim} has a bad type")]
     InvalidRegisteredClaimType { claim: &'static str },
+    /// A claim that the validator requires isn't there.
+    #[error("required claim {claim} is missing")]
+    RequiredClaimMissing { claim: &'static str },
     /// `nbf`, in seconds, less the leeway is after the date.
     #[error("token not valid before {not_before}, now is {now}")]
     NotYetValid { not_before: i64, now: JwtDate },
     /// `exp`, in seconds, plus the leeway isn't after the date.
     #[error("token expired at {not_after}, now is {now}")]
     Expired { not_after: i64, now: JwtDate },
+    /// A claim is required, and there is no date to compare it with.
+    #[error("invalid validator: {description}")]
+    InvalidValidator { description: &'static str },
     /// A number of the claims is held as a float.
     #[error("a number of the claims is a float")]
     Float,
     #[error("out of memory")]
     OutOfMemory,
+}
+
+impl JwsError {
+    /// Whether the error says that there was no memory.
+    pub fn is_out_of_memory(&self) -> bool
+        ensures { IsTrue result ↔ (jws_fault self.now ≡ None) }
+    {
+        matches!(self, JwsError::OutOfMemory)
+    }
 }
 
 impl From<AllocError> for JwsError {

@@ -56,13 +56,10 @@ impl From<Jws> for JwtSig {
 impl JwtSig {
     ghost use Rattle.picky_jose.specs.Views.{header_view, unchecked_content, claims_of};
 
-    /// The token with its claims read and their dates checked: an absent `nbf` or `exp` passes; one
-    /// that is there is an integer in `i64`, and the validator's date is at or after `nbf` less the
-    /// leeway, and before `exp` plus the leeway. Claims that aren't an object have neither.
+    /// The token with its claims read and their dates checked, as `JwtValidator::check_dates` has it.
     ///
-    /// In order: `Json` where the payload isn't JSON; `Float` where a number of it is held as a float;
-    /// of `nbf` `InvalidRegisteredClaimType`, then `NotYetValid`; of `exp`
-    /// `InvalidRegisteredClaimType`, then `Expired`.
+    /// In order: `InvalidValidator` where a claim is required and there is no date; `Json` where the payload
+    /// isn't JSON; `Float` where a number of it is held as a float; then the refusals of the dates.
     pub fn validate(
         self,
         alloc: Global,
@@ -88,6 +85,11 @@ fn checked_claims(
 ) -> Result<Value, JwtError>
     ensures { Meets view jwt_fault result (claims_table validator.now payload.now) }
 {
+    if !validator.can_judge() {
+        return Err(JwtError::InvalidValidator {
+            description: "current date is missing",
+        });
+    }
     let Some(claims) = parse(alloc, payload)? else {
         return Err(JwtError::Json);
     };

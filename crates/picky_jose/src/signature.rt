@@ -1,8 +1,9 @@
 // Whether a text is signed.
 ghost use Rattle.std.specs.Prelude.{◌≡◌, IfOk, Some};
 ghost use Rattle.picky_contract.specs.Refusals.{Meets};
-ghost use Rattle.picky_jose.specs.Faults.{jws_fault, signature_fault};
-ghost use Rattle.picky_jose.specs.Signatures.{asked_by as asked_of, refusal, vouched_table, vouched_rows, signed_table, EndsWith};
+ghost use Rattle.picky_key.specs.Signatures.{signature_fault};
+ghost use Rattle.picky_jose.specs.Faults.{jws_fault};
+ghost use Rattle.picky_jose.specs.Signatures.{asked_by as asked_of, refusal, asked_table, vouched_rows, signed_table, EndsWith};
 
 use crate::cut::halves_of;
 use crate::error::JwsError;
@@ -40,7 +41,7 @@ fn asked_by(alg: JwsAlg) -> Asked
 }
 
 // Whether the provider vouches for the signature.
-#[tactic(auto, unfolding(crate::specs::Signatures::vouched_table))]
+#[tactic(auto, unfolding(crate::specs::Signatures::asked_table))]
 fn vouch<P: KeyProvider>(
     alloc: Global,
     provider: &P,
@@ -49,7 +50,7 @@ fn vouch<P: KeyProvider>(
     signed: &[u8],
     signature: &[u8],
 ) -> Result<Option<SignatureError>, ProviderFault>
-    ensures { IfOk result (λ e. Meets (λ u. u) (λ f. Some (signature_fault f)) (refusal e) (vouched_table (P.signs provider.now) public_key.now asked signed.now signature.now)) }
+    ensures { IfOk result (λ e. Meets (λ u. u) (λ f. Some (signature_fault f)) (refusal e) (asked_table (P.signs provider.now) public_key.now asked signed.now signature.now)) }
 {
     match asked {
         Asked::Nothing => Ok(Some(SignatureError::UnsupportedAlgorithm)),

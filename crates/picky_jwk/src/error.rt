@@ -1,4 +1,7 @@
 // Errors of JSON Web Keys.
+ghost use Rattle.std.specs.Prelude.{◌≡◌, ◌↔◌, IsTrue, None};
+ghost use Rattle.picky_jwk.specs.Refusals.{fault};
+
 use std::alloc::{AllocError, AllocFailed};
 use thiserror::Error;
 
@@ -16,6 +19,15 @@ pub enum JwkError {
     /// The document isn't of the first form.
     #[error("this form of a JWK set isn't built yet")]
     Unbuilt,
+}
+
+impl JwkError {
+    /// Whether the error says that there was no memory.
+    pub fn is_out_of_memory(&self) -> bool
+        ensures { IsTrue result ↔ (fault self.now ≡ None) }
+    {
+        matches!(self, JwkError::OutOfMemory)
+    }
 }
 
 impl From<AllocError> for JwkError {

@@ -2,7 +2,7 @@
 ghost use Rattle.std.specs.Prelude.{◌≡◌, ◌≢◌, ◌↔◌, length, IsTrue, IfOk};
 ghost use Rattle.picky_key.specs.declared.error.KeyError.TheVariants.{BadSize};
 
-use crate::{EdAlgorithm, KeyError};
+use crate::{EdAlgorithm, KeyError, KeyFamily};
 use picky_contract::Bytes;
 use std::alloc::{AllocError, Global};
 use std::marker::Model;
@@ -41,6 +41,7 @@ impl Model for PublicKey {
 }
 
 impl PublicKey {
+    ghost use Rattle.picky_key.specs.Family.{family_of};
     ghost use Rattle.picky_key.specs.declared.key.PublicKeyKind.TheVariants.{Ed};
     ghost use Rattle.picky_key.specs.Sizes.{IsOfSize};
 
@@ -65,6 +66,18 @@ impl PublicKey {
             bytes: Bytes::new(bytes),
         };
         Ok(PublicKey { kind })
+    }
+
+    /// The family of the key, without taking memory.
+    pub fn family(&self) -> KeyFamily
+        ensures { result ≡ family_of self.now }
+    {
+        match &self.kind {
+            PublicKeyKind::Ed {
+                algorithm: EdAlgorithm::Ed25519,
+                ..
+            } => KeyFamily::Ed25519,
+        }
     }
 
     // Whether both are the same key.

@@ -10,7 +10,7 @@ mod key;
 mod provider;
 mod recorded;
 
-pub use algorithm::{EdAlgorithm, HashAlgorithm, SignatureAlgorithm};
+pub use algorithm::{EdAlgorithm, HashAlgorithm, KeyFamily, SignatureAlgorithm};
 pub use error::{KeyError, SignatureError};
 pub use key::PublicKey;
 pub use provider::{KeyProvider, ProviderFault};

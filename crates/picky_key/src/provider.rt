@@ -3,7 +3,7 @@ ghost use Rattle.std.specs.Prelude.{◌≡◌, ◌↔◌, ℕ, List, IsTrue, IfO
 ghost use Rattle.picky_key.specs.declared.provider.ProviderFault.TheVariants.{OutOfMemory};
 ghost use Rattle.picky_key.specs.declared.key.PublicKey.{PublicKey};
 ghost use Rattle.picky_key.specs.declared.algorithm.SignatureAlgorithm.{SignatureAlgorithm};
-ghost use Rattle.picky_key.specs.Family.{is_of_family};
+ghost use Rattle.picky_key.specs.Family.{family_of, is_of_family};
 
 use crate::{PublicKey, SignatureAlgorithm};
 use std::alloc::{AllocError, Global};
@@ -40,5 +40,5 @@ pub trait KeyProvider {
         ensures { IfOk result (λ holds. IsTrue holds ↔ signs self.now key.now algorithm message.now signature.now) };
 
     /// The relation holds only where the algorithm is of the key's family.
-    ghost signs_in_family: { (p : Self) (k : PublicKey) (a : SignatureAlgorithm) (m s : List ℕ) → signs p k a m s → IsTrue (is_of_family a k) };
+    ghost signs_in_family: { (p : Self) (k : PublicKey) (a : SignatureAlgorithm) (m s : List ℕ) → signs p k a m s → IsTrue (is_of_family a (family_of k)) };
 }

@@ -6,7 +6,9 @@
 //     date.is_before_strict SECONDS LEEWAY OTHER
 //     date.is_after SECONDS LEEWAY OTHER
 //     date.is_after_strict SECONDS LEEWAY OTHER
-//     jwt.validate SECONDS LEEWAY CLAIMS         `Ok`, or the refusal
+//     jwt.validate SECONDS LEEWAY CLAIMS         `Ok`, or the refusal, by a lenient validator
+//     jwt.validate_by CHECKS CLAIMS              the same by another: `none`, `undated` (both claims required, no date), or
+//                                                `strict`, `nbf` (that alone required), `exp` (that alone looked at), at 100
 use anyhow::{Context, Result, bail};
 use picky_jose::{Jws, JwsHeader, JwtDate, JwtSig, JwtValidator};
 use picky_jwk::JwsAlg;
@@ -52,19 +54,50 @@ fn compared(call: &str, words: &mut Words<'_>) -> Result<Answer> {
 pub(crate) fn answer(alloc: Global, call: &str, words: &mut Words<'_>) -> Result<Answer> {
     match call {
         "validate" => validate(alloc, words),
+        "validate_by" => validate_by(alloc, words),
         _ => bail!("no such call"),
     }
 }
 
 fn validate(alloc: Global, words: &mut Words<'_>) -> Result<Answer> {
     let date = date(words)?;
+    validated(alloc, JwtValidator::lenient(date), words)
+}
+
+fn validator(name: &str) -> Result<JwtValidator> {
+    let date = JwtDate::new(100);
+    match name {
+        "none" => Ok(JwtValidator::no_check()),
+        "undated" => Ok(
+            JwtValidator::no_check()
+                .not_before_check_required()
+                .expiration_check_required(),
+        ),
+        "strict" => Ok(JwtValidator::strict(date)),
+        "nbf" => Ok(JwtValidator::lenient(date).not_before_check_required()),
+        "exp" => Ok(
+            JwtValidator::no_check()
+                .current_date(date)
+                .not_before_check_ignored()
+                .expiration_check_optional(),
+        ),
+        _ => bail!("no such validator"),
+    }
+}
+
+fn validate_by(alloc: Global, words: &mut Words<'_>) -> Result<Answer> {
+    let validator = validator(words.next())?;
+    validated(alloc, validator, words)
+}
+
+fn validated(alloc: Global, validator: JwtValidator, words: &mut Words<'_>) -> Result<Answer> {
     let header = JwsHeader {
         alg: JwsAlg::EdDSA,
         kid: None,
     };
     let payload = words.rest().as_bytes().to_vec(alloc)?;
     let token = JwtSig::from(Jws { header, payload });
-    match token.validate(alloc, &JwtValidator::lenient(date)) {
+    match token.validate(alloc, &validator) {
         Ok(_) => Ok(Answer::Word("Ok")),
         Err(error) => Answer::debug(alloc, &error),
     }

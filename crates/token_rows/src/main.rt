@@ -3,6 +3,7 @@
 
 mod base64;
 mod dates;
+mod http;
 mod json;
 mod keys;
 mod messages;
@@ -29,6 +30,7 @@ impl Calls for TokenCalls {
             "jws" => tokens::answer(alloc, call, words),
             "jwt" => dates::answer(alloc, call, words),
             "date" => dates::answer_of_date(alloc, call, words),
+            "http" => http::answer(alloc, call, words),
             "message" => messages::answer(alloc, call, words),
             _ => bail!("no such call"),
         }

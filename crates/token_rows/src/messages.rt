@@ -5,8 +5,8 @@
 //     message.records OutOfMemory | Unbuilt
 //     message.jwk Base64Decoding | InvalidEdPublicKey | OutOfMemory | Unbuilt
 //     message.jws Json | Signature SIGNATURE.. | InvalidEncoding INPUT | Base64Decoding | Float | OutOfMemory
-//     message.jwt Jws JWS.. | Json | InvalidRegisteredClaimType CLAIM | NotYetValid NBF SECONDS LEEWAY
-//         | Expired EXP SECONDS LEEWAY | Float | OutOfMemory
+//     message.jwt Jws JWS.. | Json | InvalidRegisteredClaimType CLAIM | RequiredClaimMissing CLAIM
+//         | NotYetValid NBF SECONDS LEEWAY | Expired EXP SECONDS LEEWAY | InvalidValidator | Float | OutOfMemory
 use crate::dates::{date, seconds};
 use anyhow::{Result, bail};
 use picky_jose::{JwsError, JwtError};
@@ -103,6 +103,12 @@ fn jwt(alloc: Global, words: &mut Words<'_>) -> Result<JwtError> {
         "Json" => Ok(JwtError::Json),
         "InvalidRegisteredClaimType" => Ok(JwtError::InvalidRegisteredClaimType {
             claim: claim(words.next())?,
+        }),
+        "RequiredClaimMissing" => Ok(JwtError::RequiredClaimMissing {
+            claim: claim(words.next())?,
+        }),
+        "InvalidValidator" => Ok(JwtError::InvalidValidator {
+            description: "current date is missing",
         }),
         "NotYetValid" => Ok(JwtError::NotYetValid {
             not_before: seconds(words)?,

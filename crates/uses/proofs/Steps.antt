@@ -6,16 +6,18 @@ use Rattle.picky_contract.specs.Refusals.{named, ◌>>=◌}
 use Rattle.picky_contract.specs.laws.Tables.{step_refuses, up}
 use Rattle.picky_json.specs.Tree.{Tree, FloatFree, integer, member}
 use Rattle.picky_key.specs.declared.key.PublicKeyKind.{PublicKeyKind}
+use Rattle.picky_key.specs.Signatures.{Relation}
 use Rattle.picky_jwk.specs.declared.alg.JwsAlg.{JwsAlg}
 use Rattle.picky_jose.specs.declared.date.JwtDate.{JwtDate}
 use Rattle.picky_jose.specs.declared.error.JwsError.{JwsError}
 use Rattle.picky_jose.specs.declared.error.JwsError.TheVariants as of_jws
 use Rattle.picky_jose.specs.declared.error.JwtError.{JwtError}
-use Rattle.picky_jose.specs.Claims.{nbf_table, exp_table, dates_table, claims_table}
+use Rattle.picky_jose.specs.Claims.{start_table, end_table, dated_table, claims_table}
 use Rattle.picky_jose.specs.Dates.{IsAtOrAfterStart, IsBeforeEnd}
 use Rattle.picky_jose.specs.Faults.{jws_fault, jwt_fault, jwt_error_of}
 use Rattle.picky_jose.specs.Refusals.{Reading, TokenReading, token_table}
-use Rattle.picky_jose.specs.Signatures.{Relation, signed_table}
+use Rattle.picky_jose.specs.Signatures.{signed_table}
+use Rattle.picky_jose.specs.Validator.{lenient}
 use Rattle.picky_jose.specs.laws.Vouching.{signed_holds}
 use Rattle.uses.specs.Accepted.{Accepted, HasDate, of_token, accepted_table}
 
@@ -31,28 +33,28 @@ outer of_jws.OutOfMemory = refl
 module _ (signs : Relation) (key : PublicKeyKind) (date : JwtDate) (text : List ℕ) where
   pub not_read : (e : JwsError) → IfSome (jws_fault e) (token_table text).refuses → IfSome (jwt_fault (jwt_error_of e)) (accepted_table signs key date text).refuses
   unfolding accepted_table
-  not_read e due = rw (outer e) (step_refuses of_token (token_table text) (λ (x : Reading). named of_token (signed_table signs key x.header.alg text) >>= λ _. claims_table date x.payload) (jws_fault e) due)
+  not_read e due = rw (outer e) (step_refuses of_token (token_table text) (λ (x : Reading). named of_token (signed_table signs key x.header.alg text) >>= λ _. claims_table (lenient date) x.payload) (jws_fault e) due)
 
   pub not_signed : (x : Reading) (e : JwsError) → (token_table text).gives x → IfSome (jws_fault e) (signed_table signs key x.header.alg text).refuses
       → IfSome (jwt_fault (jwt_error_of e)) (accepted_table signs key date text).refuses
   unfolding accepted_table
-  not_signed x e read due = rw (outer e) (up (option_map of_token (jws_fault e)) _ _ (λ f k. inr (x, read, k)) (step_refuses of_token (signed_table signs key x.header.alg text) (λ _. claims_table date x.payload) (jws_fault e) due))
+  not_signed x e read due = rw (outer e) (up (option_map of_token (jws_fault e)) _ _ (λ f k. inr (x, read, k)) (step_refuses of_token (signed_table signs key x.header.alg text) (λ _. claims_table (lenient date) x.payload) (jws_fault e) due))
 
-  pub not_dated : (x : Reading) (e : JwtError) → (token_table text).gives x → (signed_table signs key x.header.alg text).gives tt → IfSome (jwt_fault e) (claims_table date x.payload).refuses
+  pub not_dated : (x : Reading) (e : JwtError) → (token_table text).gives x → (signed_table signs key x.header.alg text).gives tt → IfSome (jwt_fault e) (claims_table (lenient date) x.payload).refuses
       → IfSome (jwt_fault e) (accepted_table signs key date text).refuses
   unfolding accepted_table
   not_dated x e read signed due = up (jwt_fault e) _ _ (λ f k. inr (x, read, inr (tt, signed, k))) due
 
-  pub all_hold : (x : Reading) (claims : Data) → (token_table text).gives x → (signed_table signs key x.header.alg text).gives tt → (claims_table date x.payload).gives claims
+  pub all_hold : (x : Reading) (claims : Data) → (token_table text).gives x → (signed_table signs key x.header.alg text).gives tt → (claims_table (lenient date) x.payload).gives claims
       → (accepted_table signs key date text).gives claims
   unfolding accepted_table
   all_hold x claims read signed dated = (x, read, (tt, signed, dated))
 
-  starts : (o : Option Data) → (nbf_table date o).gives tt → (nbf : ℤ) → option_and_then integer o ≡ Some nbf → IsAtOrAfterStart date nbf
+  starts : (o : Option Data) → (start_table date o).gives tt → (nbf : ℤ) → option_and_then integer o ≡ Some nbf → IsAtOrAfterStart date nbf
   starts None h nbf e = let no : None ≡ Some nbf = e in absurd cc
   starts (Some t) (n, (is, one), after) nbf e = subst (λ m. IsAtOrAfterStart date m) (sym (one nbf e)) after
 
-  ends : (o : Option Data) → (exp_table date o).gives tt → (exp : ℤ) → option_and_then integer o ≡ Some exp → IsBeforeEnd date exp
+  ends : (o : Option Data) → (end_table date o).gives tt → (exp : ℤ) → option_and_then integer o ≡ Some exp → IsBeforeEnd date exp
   ends None h exp e = let no : None ≡ Some exp = e in absurd cc
   ends (Some t) (n, (is, one), before) exp e = subst (λ m. IsBeforeEnd date m) (sym (one exp e)) before
 
@@ -63,9 +65,9 @@ module _ (signs : Relation) (key : PublicKeyKind) (date : JwtDate) (text : List 
     pub started : (nbf : ℤ) → HasDate (codes "nbf") claims nbf → IsAtOrAfterStart date nbf
     pub lasts : (exp : ℤ) → HasDate (codes "exp") claims exp → IsBeforeEnd date exp
 
-  pub dated : (payload : List ℕ) (claims : Data) → (claims_table date payload).gives claims → Dated payload claims
-  unfolding claims_table dates_table
-  dated payload claims (t, (tree, one), (u, free, (v, (w, nbf, exp), is))) =
+  pub dated : (payload : List ℕ) (claims : Data) → (claims_table (lenient date) payload).gives claims → Dated payload claims
+  unfolding claims_table dated_table
+  dated payload claims (z, can, (t, (tree, one), (u, free, (v, (w, nbf, exp), is)))) =
       let found : Dated payload t = record {
         tree = tree;
         free = free;
@@ -74,7 +76,7 @@ module _ (signs : Relation) (key : PublicKeyKind) (date : JwtDate) (text : List 
       } in
       subst (λ (c : Data). Dated payload c) (sym is) found
 
-  pub accepted : (x : Reading) (claims : Data) → TokenReading x text → (signed_table signs key x.header.alg text).gives tt → (claims_table date x.payload).gives claims
+  pub accepted : (x : Reading) (claims : Data) → TokenReading x text → (signed_table signs key x.header.alg text).gives tt → (claims_table (lenient date) x.payload).gives claims
       → Accepted signs key date text claims
   accepted x claims reads signed gives =
       let name = ap (λ h. h.alg) reads.header.is in

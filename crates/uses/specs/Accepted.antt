@@ -5,12 +5,14 @@ use Rattle.picky_contract.specs.Refusals.{Table, named, ◌>>=◌}
 use Rattle.picky_json.specs.Tree.{Tree, FloatFree, member, integer}
 use Rattle.picky_key.specs.declared.key.PublicKeyKind.{PublicKeyKind}
 use Rattle.picky_key.specs.declared.algorithm.SignatureAlgorithm.TheVariants.{Ed25519}
+use Rattle.picky_key.specs.Signatures.{Relation}
 use Rattle.picky_jose.specs.declared.date.JwtDate.{JwtDate}
 use Rattle.picky_jose.specs.Claims.{claims_table}
 use Rattle.picky_jose.specs.Dates.{IsAtOrAfterStart, IsBeforeEnd}
 use Rattle.picky_jose.specs.Faults.{JwsFault, JwtFault, jws}
 use Rattle.picky_jose.specs.Refusals.{Reading, TokenReading, token_table, signed_bytes}
-use Rattle.picky_jose.specs.Signatures.{Relation, signed_table}
+use Rattle.picky_jose.specs.Signatures.{signed_table}
+use Rattle.picky_jose.specs.Validator.{lenient}
 
 -- a moment in seconds, with a leeway of 30
 abbrev pub date_at : ℤ → JwtDate
@@ -41,4 +43,4 @@ unfoldable pub accepted_table : Relation → PublicKeyKind → JwtDate → List 
 accepted_table signs key date text = do
   x ← named of_token (token_table text)
   signed ← named of_token (signed_table signs key x.header.alg text)
-  claims_table date x.payload
+  claims_table (lenient date) x.payload

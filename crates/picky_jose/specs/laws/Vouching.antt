@@ -6,14 +6,15 @@ use Rattle.picky_contract.specs.laws.Tables.{Leads}
 use Rattle.picky_base64.specs.Base64.{B64}
 use Rattle.picky_base64.specs.declared.Form.TheVariants.{Url}
 use Rattle.picky_base64.specs.laws.Encoding.{once}
+use Rattle.picky_key.specs.Signatures.{Relation, bad}
 use Rattle.picky_key.specs.declared.key.PublicKeyKind.{PublicKeyKind}
 use Rattle.picky_key.specs.declared.algorithm.SignatureAlgorithm.TheVariants.{Ed25519}
 use Rattle.picky_jwk.specs.declared.alg.JwsAlg.{JwsAlg}
 use Rattle.picky_jwk.specs.declared.alg.JwsAlg.TheVariants.{EdDSA}
 use Rattle.picky_jose.specs.Token.{Halves, HalvesOf, dot}
 use Rattle.picky_jose.specs.Refusals.{Reading, TokenReading, signed_bytes}
-use Rattle.picky_jose.specs.Signatures.{Relation, signed_table, vouched_table, vouched_rows, EndsWith}
-use Rattle.picky_jose.specs.Faults.{JwsFault, signature, bad}
+use Rattle.picky_jose.specs.Signatures.{signed_table, asked_table, vouched_rows, EndsWith}
+use Rattle.picky_jose.specs.Faults.{JwsFault, signature}
 
 -- a text is cut at its last dot in one way
 pub one_half : (text : List ℕ) (x y : Halves) → HalvesOf text x → HalvesOf text y → y ≡ x
@@ -41,7 +42,7 @@ module _ (x : Reading) (token : List ℕ) where
   module _ (signs : Relation) (key : PublicKeyKind) where
     -- the rows accept it, and the relation holds of the reading
     pub signed_holds : (r : TokenReading x token) → (signed_table signs key EdDSA token).gives tt → signs key Ed25519 (signed_bytes r) x.signature
-    unfolding signed_table vouched_table halves
+    unfolding signed_table asked_table halves
     signed_holds r (h, (is, one), (s, (spelled, only), signed)) =
         let same : halves r ≡ h = one (halves r) (halves_of r) in
         let s_same : x.signature ≡ s = only x.signature (subst (λ (k : Halves). B64 Url k.signature x.signature) same r.signature) in
@@ -49,7 +50,7 @@ module _ (x : Reading) (token : List ℕ) where
 
     -- the relation holds of the reading, and the rows accept it
     pub signed_gives : (r : TokenReading x token) → signs key Ed25519 (signed_bytes r) x.signature → (signed_table signs key EdDSA token).gives tt
-    unfolding signed_table vouched_table halves
+    unfolding signed_table asked_table halves
     signed_gives r signed = (
       halves r,
       (halves_of r, λ y h. one_half token (halves r) y (halves_of r) h),
@@ -58,7 +59,7 @@ module _ (x : Reading) (token : List ℕ) where
 
     -- the rows refuse it: that is as a bad signature, and the relation doesn't hold
     pub signed_fails : (r : TokenReading x token) (f : JwsFault) → (signed_table signs key EdDSA token).refuses f → (f ≡ signature bad) × (¬ (signs key Ed25519 (signed_bytes r) x.signature))
-    unfolding signed_table vouched_table halves
+    unfolding signed_table asked_table halves
     signed_fails r f (inl none) = absurd (none.1 (halves r) (halves_of r))
     signed_fails r f (inr (h, (is, one), inl none)) =
         let same : halves r ≡ h = one (halves r) (halves_of r) in

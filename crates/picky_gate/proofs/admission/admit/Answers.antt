@@ -1,5 +1,6 @@
 use Rattle.std.proofs.lemmas.Result.{IfOk-weaker}
 use Rattle.picky_contract.specs.laws.Tables.{found, complete}
+use Rattle.picky_http.specs.Lines.{request_of}
 use Rattle.picky_gate.specs.Refusals.{cause_of, admission_of, admits_table}
 use Rattle.picky_gate.proofs.Admitting.{admits_exact, to_admissible, from_admissible}
 use Rattle.picky_gate.proofs.admission.admit.Goals as goal
@@ -7,12 +8,18 @@ use Rattle.picky_gate.proofs.admission.admit.Goals as goal
 pub returns-clause-found : goal.returns-clause-found
 returns-clause-found g c =
     let signs = g.P.KeyProvider.signs c.args.provider.now in
-    let date = c.args.policy.now.validator in
-    IfOk-weaker c.decide.result _ _ (λ a. to_admissible signs c.args.ring.now c.args.authorization.now date (admission_of a))
-    (found admission_of cause_of c.decide.result (admits_table signs c.args.ring.now c.args.authorization.now date) (admits_exact signs c.args.ring.now c.args.authorization.now date) c.decide.ensures)
+    let ring = c.args.ring.now in
+    let policy = c.args.policy.now in
+    let asked = request_of g.Q.HttpRequest.answer g.Q.HttpRequest.method g.Q.HttpRequest.target c.args.request.now in
+    let text = c.args.authorization.now in
+    IfOk-weaker c.decide.result _ _ (λ a. to_admissible signs ring policy asked text (admission_of a))
+    (found admission_of cause_of c.decide.result (admits_table signs ring policy asked text) (admits_exact signs ring policy asked text) c.decide.ensures)
 
 pub returns-clause-every : goal.returns-clause-every
 returns-clause-every g c = λ a h.
     let signs = g.P.KeyProvider.signs c.args.provider.now in
-    let date = c.args.policy.now.validator in
-    complete admission_of cause_of c.decide.result (admits_table signs c.args.ring.now c.args.authorization.now date) (admits_exact signs c.args.ring.now c.args.authorization.now date) c.decide.ensures a (from_admissible signs c.args.ring.now c.args.authorization.now date a h)
+    let ring = c.args.ring.now in
+    let policy = c.args.policy.now in
+    let asked = request_of g.Q.HttpRequest.answer g.Q.HttpRequest.method g.Q.HttpRequest.target c.args.request.now in
+    let text = c.args.authorization.now in
+    complete admission_of cause_of c.decide.result (admits_table signs ring policy asked text) (admits_exact signs ring policy asked text) c.decide.ensures a (from_admissible signs ring policy asked text a h)

@@ -9,7 +9,7 @@ pub returns-in-Ok : goal.returns-in-Ok
 returns-in-Ok c =
     IfOk-weaker c.ring_of.result _ _ (first_next c.args.text.now (set_view c.in-Ok.set) c.in-Ok.ensures.found c.in-Ok.ensures.every) c.ring_of.ensures
 
-pub returns-else-wants_memory : goal.returns-else-wants_memory
-returns-else-wants_memory c =
+pub returns-else-is_out_of_memory : goal.returns-else-is_out_of_memory
+returns-else-is_out_of_memory c =
     let some : ¬ (fault c.in-Err.error ≡ None) = search rules in
     λ y w. some (c.in-Err.ensures.every w.keys w.read)

@@ -7,7 +7,7 @@ use Rattle.picky_gate.proofs.first_ring.key_of.Goals as goal
 pub returns-in-Ok : goal.returns-in-Ok
 returns-in-Ok c = key_found (jwk_view c.args.jwk.now).key c.in-Ok.key c.in-Ok.ensures
 
-pub returns-else-wants_memory : goal.returns-else-wants_memory
-returns-else-wants_memory c =
+pub returns-else-is_out_of_memory : goal.returns-else-is_out_of_memory
+returns-else-is_out_of_memory c =
     let some : ¬ (fault c.in-Err.error ≡ None) = search rules in
     key_none (jwk_view c.args.jwk.now).key (fault c.in-Err.error) c.in-Err.ensures some

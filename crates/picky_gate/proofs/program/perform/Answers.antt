@@ -4,6 +4,7 @@ use Rattle.picky_gate.specs.declared.documents.Documents.{Documents}
 use Rattle.picky_gate.specs.declared.program.Unfetched.{Unfetched}
 use Rattle.picky_gate.specs.Asked.{admit_of}
 use Rattle.picky_gate.specs.Reply.{unread, reply_text}
+use Rattle.picky_gate.proofs.Fetching.{all_paths}
 use Rattle.picky_gate.proofs.Delivery.{same_text, is_reply}
 use Rattle.picky_gate.proofs.program.perform.Goals as goal
 
@@ -35,5 +36,5 @@ returns-clause-replies g c = inl (record {
   nothing = refl;
   command = admit_of c.in-Some.command;
   is_command = c.in-Some.ensures;
-  asked = (2, c.in-Ok.ensures.asks.fetched);
+  asked = (3, rw (all_paths (admit_of c.in-Some.command)) c.in-Ok.ensures.asks.fetched);
 })

@@ -1,0 +1,4 @@
+pub mod Setting
+pub mod Splits
+pub mod Values
+pub mod Writing

@@ -1,0 +1,10 @@
+pub mod Algorithms
+pub mod Faults
+pub mod Lines
+pub mod Parts
+pub mod Reading
+pub mod Refusals
+pub mod Signing
+pub mod Steps
+pub mod Verifying
+pub mod laws

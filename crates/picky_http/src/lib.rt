@@ -1,0 +1,27 @@
+//! HTTP signatures (draft-cavage-http-signatures-12): header texts, signing strings, verifying.
+//!
+//! - [`HttpSignature`]: what a header text says; `from_str` reads one.
+//! - [`HttpSignatureVerifier`]: whether a signature holds of a request, under a key and at a moment.
+//! - [`HttpRequest`]: what is asked of a request; [`RequestHead`], `Parts` and `Request<T>` of the crate
+//!   `http`, and [`NoRequest`] are requests. [`read_head`] reads a request head from bytes.
+#![tactic(auto)]
+
+mod algorithm;
+mod check;
+mod error;
+mod header;
+pub mod laws;
+mod read;
+mod signature;
+mod signing;
+mod verifier;
+mod view;
+
+pub use algorithm::HttpSigAlgorithm;
+pub use error::HttpSignatureError;
+pub use header::{CREATED_STR, EXPIRES_STR, Header, REQUEST_TARGET_STR};
+pub use picky_http_request::{
+    HeadFault, HttpRequest, HttpRequestError, NoRequest, RequestField, RequestHead, read_head,
+};
+pub use signature::HttpSignature;
+pub use verifier::HttpSignatureVerifier;

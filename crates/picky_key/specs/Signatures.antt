@@ -1,0 +1,27 @@
+-- When a signature is accepted under a key and an algorithm, and why not (own): every kind of signed text
+-- is judged by this one row, whatever its signed bytes are.
+use Rattle.std.specs.Prelude.{ℕ, List, ⊤}
+use Rattle.picky_contract.specs.Refusals.{Table, need}
+use Rattle.picky_key.specs.declared.key.PublicKeyKind.{PublicKeyKind}
+use Rattle.picky_key.specs.declared.algorithm.SignatureAlgorithm.{SignatureAlgorithm}
+use Rattle.picky_key.specs.declared.error.SignatureError.{SignatureError}
+use Rattle.picky_key.specs.declared.error.SignatureError.TheVariants as of_signature
+
+-- a signature relation: key, algorithm, message and signature
+abbrev pub Relation : Type 1
+Relation = PublicKeyKind → SignatureAlgorithm → List ℕ → List ℕ → Type 0
+
+-- why a signature isn't accepted; sizes in bytes, expected and got
+pub data SignatureFault : Type 0 where
+  unsupported : SignatureFault
+  bad : SignatureFault
+  ec_size : ℕ → ℕ → SignatureFault
+
+abbrev pub signature_fault : SignatureError → SignatureFault
+signature_fault of_signature.UnsupportedAlgorithm = unsupported
+signature_fault of_signature.BadSignature = bad
+signature_fault (of_signature.Ec expected got) = ec_size expected got
+
+-- the relation holds of the key, the algorithm, the message and the signature
+abbrev pub vouched_table : Relation → PublicKeyKind → SignatureAlgorithm → List ℕ → List ℕ → Table ⊤ SignatureFault
+vouched_table signs key algorithm message s = need (signs key algorithm message s) bad
