@@ -1,13 +1,13 @@
 // How long DER takes, by the size of what is read, and where bytes claim more than there is.
-use crate::timing::micros_since;
-use anyhow::Result;
+use crate::timing::report;
+use anyhow::{Result, bail};
 use picky_asn1_tag::Tag;
 use picky_asn1_wrapper::Asn1SequenceOf;
 use picky_der::{DerReader, from_bytes, to_vec};
 use std::alloc::Global;
 use std::time::Instant;
 
-// Prints the microseconds of each.
+// Prints a line for each.
 pub(crate) fn print(rt: &HostRuntime) -> Result<()> {
     for count in [50_000, 100_000, 200_000] {
         time_numbers(rt, count)?;
@@ -27,16 +27,10 @@ fn time_numbers(rt: &HostRuntime, count: u32) -> Result<()> {
     let sequence = Asn1SequenceOf(numbers);
     let start = Instant::now(rt)?;
     let bytes = to_vec(rt.alloc(), &sequence)?;
-    let written = micros_since(rt, &start)?;
+    report(rt, "integers-written", u64::from(count), &start)?;
     let start = Instant::now(rt)?;
-    let back: Asn1SequenceOf<u32> = from_bytes(rt.alloc(), &bytes)?;
-    let read = micros_since(rt, &start)?;
-    println!(rt;
-        "{count} integers, {} bytes: written in {written} us, {} read in {read} us",
-        bytes.len(),
-        back.0.len()
-    )?;
-    Ok(())
+    let _back: Asn1SequenceOf<u32> = from_bytes(rt.alloc(), &bytes)?;
+    report(rt, "integers-read", u64::from(count), &start)
 }
 
 // So many bytes: headers of five bytes, each the contents of the one before it, and zeros where less is left than such a
@@ -56,40 +50,34 @@ fn nested_headers(alloc: Global, size: u32) -> Result<Vec<u8>> {
     Ok(bytes)
 }
 
-// How many readers are nested in one another before one is refused, at most so many.
-fn nested_readers(bytes: &[u8], most: u32) -> u32 {
+// Whether so many readers can be nested in one another.
+fn nest(bytes: &[u8], most: u32) -> bool {
     let mut reader = DerReader::new(bytes);
-    for depth in 0..most {
+    for _ in 0..most {
         match reader.nested(Tag::SEQUENCE) {
             Ok(inner) => reader = inner,
-            Err(_) => return depth,
+            Err(_) => return false,
         }
     }
-    most
+    true
 }
 
-// Headers nested in one another.
+// Headers nested in one another, in so many bytes.
 fn time_headers(rt: &HostRuntime, size: u32) -> Result<()> {
     let bytes = nested_headers(rt.alloc(), size)?;
     let start = Instant::now(rt)?;
-    let readers = nested_readers(&bytes, size);
-    let micros = micros_since(rt, &start)?;
-    println!(rt;
-        "{} bytes of headers: {readers} readers in {micros} us",
-        bytes.len()
-    )?;
-    Ok(())
+    if nest(&bytes, size) {
+        bail!("a reader was nested for each byte");
+    }
+    report(rt, "bytes-of-nested-headers", u64::from(size), &start)
 }
 
 // A length of 2^63 in ten bytes.
 fn time_claims(rt: &HostRuntime) -> Result<()> {
     let bytes = [0x04, 0x88, 0x80, 0, 0, 0, 0, 0, 0, 0];
     let start = Instant::now(rt)?;
-    let read = DerReader::new(&bytes).read_value(Tag::OCTET_STRING);
-    let micros = micros_since(rt, &start)?;
-    println!(rt;
-        "a length of 2^63 in ten bytes: refused {} in {micros} us",
-        read.is_err()
-    )?;
-    Ok(())
+    if DerReader::new(&bytes).read_value(Tag::OCTET_STRING).is_ok() {
+        bail!("a length past the end is read");
+    }
+    report(rt, "bytes-that-claim-2^63", 10, &start)
 }

@@ -1,17 +1,30 @@
-//! How fast the ciphers are, and how long DER takes.
+//! How long the ciphers and DER take.
 //!
-//! With the word `time` it prints how fast each call of the ciphers is; with the word `speed` it prints how long those
-//! calls take that `scripts/bench-speed` holds against openssl; with the word `iterate` it prints a key of 16,777,216
-//! iterations of PBKDF2; with the word `der` it prints how long DER takes, by size. With no word it prints these words.
+//! With the word `time` it prints how long each call of the ciphers takes; with the word `speed` how long those take that
+//! `scripts/bench-speed` holds against openssl; with the word `iterate` it prints a key of 16,777,216 iterations of PBKDF2;
+//! with the word `der` how long DER takes, by size. With no word it prints these words.
 #![tactic(auto)]
 
+mod ciphers;
 mod der;
 mod derivations;
-mod speed;
 mod timing;
 
 use anyhow::{Result, bail};
+use picky_cipher::Aes;
 use std::env;
+
+fn time(rt: &HostRuntime) -> Result<()> {
+    ciphers::print(rt)?;
+    derivations::time_mac(rt)
+}
+
+fn speed(rt: &HostRuntime) -> Result<()> {
+    let aes = Aes::new(&[7; 32]);
+    ciphers::time_gcm(rt, "aes-256-gcm", &aes, timing::MEBIBYTE, 16)?;
+    ciphers::time_cbc(rt, &aes, 16)?;
+    derivations::time_keys(rt)
+}
 
 fn main(rt: HostRuntime) -> Result<()> {
     let mut words = env::args(&rt)?;
@@ -22,11 +35,11 @@ fn main(rt: HostRuntime) -> Result<()> {
             Ok(())
         }
         Some(word) => match word.as_str() {
-            "time" => timing::print(&rt),
-            "speed" => speed::print(&rt),
+            "time" => time(&rt),
+            "speed" => speed(&rt),
             "iterate" => derivations::print_large(&rt),
             "der" => der::print(&rt),
-            other => bail!("{other:?} is neither `time`, `speed`, `iterate` nor `der`"),
+            _ => bail!("the words are `time`, `speed`, `iterate` and `der`"),
         },
     }
 }

@@ -41,14 +41,19 @@ fn decrypted(alloc: Global, words: &mut Words<'_>) -> Result<Answer> {
 fn agrees(alloc: Global, words: &mut Words<'_>) -> Result<Answer> {
     let key = words.bytes(alloc)?;
     if key.len() != 16 && key.len() != 24 && key.len() != 32 {
-        bail!("a key of {} bytes", key.len());
+        bail!("a key of 16, 24 or 32 bytes is missing");
     }
-    let aes = Aes::new(&key);
-    let slow = ByteAes::new(&key);
     let start = block(words)?;
+    let times = words.size()?;
+    let agree = agree(&Aes::new(&key), &ByteAes::new(&key), start, times);
+    Ok(Answer::Truth(agree))
+}
+
+// Whether two bodies agree on so many blocks, each the one before it encrypted, both ways.
+fn agree(aes: &Aes, slow: &ByteAes, start: [u8; 16], times: usize) -> bool {
     let mut block = start;
-    let mut other = start;
-    for _ in 0..words.size()? {
+    for _ in 0..times {
+        let mut other = block;
         aes.encrypt_block(&mut block);
         slow.encrypt_block(&mut other);
         let mut back = block;
@@ -56,8 +61,8 @@ fn agrees(alloc: Global, words: &mut Words<'_>) -> Result<Answer> {
         aes.decrypt_block(&mut back);
         slow.decrypt_block(&mut other_back);
         if block != other || back != other_back {
-            return Ok(Answer::Truth(false));
+            return false;
         }
     }
-    Ok(Answer::Truth(true))
+    true
 }

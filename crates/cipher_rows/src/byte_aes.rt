@@ -1,6 +1,6 @@
 // AES byte by byte (FIPS 197, 5.1 to 5.3), with an S-box that is made by its definition: the slow body that `picky_aes`, which
-// works on words with tables, is compared with.
-ghost use Rattle.std.specs.Prelude.{◌≡◌, ◌≤◌, ◌*◌, length};
+// works on words with tables, is compared with. A block is four columns of four bytes, and so is a round key.
+ghost use Rattle.std.specs.Prelude.{◌≡◌, ◌≤◌, length};
 ghost use Rattle.picky_aes.specs.Expanded.{IsWordCount};
 
 fn times_x(byte: u8) -> u8 {
@@ -46,36 +46,66 @@ fn fill_boxes(sub: &mut [u8; 256], unsub: &mut [u8; 256]) {
     }
 }
 
-fn replace(state: &mut [u8; 16], table: &[u8; 256]) {
-    for byte in state.iter_mut() {
-        *byte = table[*byte as usize];
-    }
+fn columns(block: [u8; 16]) -> [[u8; 4]; 4] {
+    let [a, b, c, d, e, f, g, h, i, j, k, l, m, n, o, p] = block;
+    [[a, b, c, d], [e, f, g, h], [i, j, k, l], [m, n, o, p]]
 }
 
-fn shift_rows(s: [u8; 16]) -> [u8; 16] {
+fn bytes(state: [[u8; 4]; 4]) -> [u8; 16] {
+    let [[a, b, c, d], [e, f, g, h], [i, j, k, l], [m, n, o, p]] = state;
+    [a, b, c, d, e, f, g, h, i, j, k, l, m, n, o, p]
+}
+
+fn replaced([a, b, c, d]: [u8; 4], table: &[u8; 256]) -> [u8; 4] {
     [
-        s[0], s[5], s[10], s[15], s[4], s[9], s[14], s[3], s[8], s[13], s[2], s[7], s[12], s[1],
-        s[6], s[11],
+        table[a as usize],
+        table[b as usize],
+        table[c as usize],
+        table[d as usize],
     ]
 }
 
-// Each column times a polynomial, given by its coefficients from the lowest.
-fn times_columns(state: &mut [u8; 16], p: [u8; 4]) {
-    let s = *state;
-    for i in 0..16usize {
-        let top = i - i % 4;
-        state[i] = product(p[0], s[i])
-            ^ product(p[1], s[top + (i + 3) % 4])
-            ^ product(p[2], s[top + (i + 2) % 4])
-            ^ product(p[3], s[top + (i + 1) % 4]);
+fn sum([a, b, c, d]: [u8; 4], [e, f, g, h]: [u8; 4]) -> [u8; 4] {
+    [a ^ e, b ^ f, c ^ g, d ^ h]
+}
+
+fn replace(state: &mut [[u8; 4]; 4], table: &[u8; 256]) {
+    for column in state.iter_mut() {
+        *column = replaced(*column, table);
     }
 }
 
-fn add_key(state: &mut [u8; 16], keys: &[u8; 240], round: usize)
+fn shift_rows(state: [[u8; 4]; 4]) -> [[u8; 4]; 4] {
+    let [[a, b, c, d], [e, f, g, h], [i, j, k, l], [m, n, o, p]] = state;
+    [[a, f, k, p], [e, j, o, d], [i, n, c, h], [m, b, g, l]]
+}
+
+// One byte of a column times a polynomial, given by its coefficients from the lowest, each beside the byte that it meets.
+fn dot([p, q, r, s]: [u8; 4], [a, b, c, d]: [u8; 4]) -> u8 {
+    product(p, a) ^ product(q, b) ^ product(r, c) ^ product(s, d)
+}
+
+fn times([a, b, c, d]: [u8; 4], p: [u8; 4]) -> [u8; 4] {
+    [
+        dot(p, [a, d, c, b]),
+        dot(p, [b, a, d, c]),
+        dot(p, [c, b, a, d]),
+        dot(p, [d, c, b, a]),
+    ]
+}
+
+// Each column times a polynomial.
+fn times_columns(state: &mut [[u8; 4]; 4], p: [u8; 4]) {
+    for column in state.iter_mut() {
+        *column = times(*column, p);
+    }
+}
+
+fn add_key(state: &mut [[u8; 4]; 4], keys: &[[u8; 4]; 60], round: usize)
     requires { round ≤ 14 }
 {
-    for i in 0..16usize {
-        state[i] ^= keys[16 * round + i];
+    for i in 0..4usize {
+        state[i] = sum(state[i], keys[4 * round + i]);
     }
 }
 
@@ -83,47 +113,28 @@ fn add_key(state: &mut [u8; 16], keys: &[u8; 240], round: usize)
 fn key_step(sub: &[u8; 256], words: usize, i: usize, before: [u8; 4], power: u8) -> [u8; 4]
     requires { IsWordCount words }
 {
-    let [a, b, c, d] = before;
     if i % words == 0 {
-        [
-            sub[b as usize] ^ power,
-            sub[c as usize],
-            sub[d as usize],
-            sub[a as usize],
-        ]
+        let [a, b, c, d] = replaced(before, sub);
+        [b ^ power, c, d, a]
     } else if words > 6 && i % words == 4 {
-        [
-            sub[a as usize],
-            sub[b as usize],
-            sub[c as usize],
-            sub[d as usize],
-        ]
+        replaced(before, sub)
     } else {
         before
     }
 }
 
 // The key schedule, where the key of so many words stands in front.
-fn expand(keys: &mut [u8; 240], sub: &[u8; 256], words: usize)
+fn expand(keys: &mut [[u8; 4]; 60], sub: &[u8; 256], words: usize)
     requires { IsWordCount words }
 {
     let mut power = 1;
     for m in 0..3 * words + 28 {
         let i = words + m;
-        let before = [
-            keys[4 * i - 4],
-            keys[4 * i - 3],
-            keys[4 * i - 2],
-            keys[4 * i - 1],
-        ];
-        let [a, b, c, d] = key_step(sub, words, i, before, power);
+        let step = key_step(sub, words, i, keys[i - 1], power);
         if i % words == 0 {
             power = times_x(power);
         }
-        keys[4 * i] = keys[4 * m] ^ a;
-        keys[4 * i + 1] = keys[4 * m + 1] ^ b;
-        keys[4 * i + 2] = keys[4 * m + 2] ^ c;
-        keys[4 * i + 3] = keys[4 * m + 3] ^ d;
+        keys[i] = sum(keys[m], step);
     }
 }
 
@@ -132,7 +143,7 @@ fn expand(keys: &mut [u8; 240], sub: &[u8; 256], words: usize)
 pub(crate) struct ByteAes {
     sub: [u8; 256],
     unsub: [u8; 256],
-    keys: [u8; 240],
+    keys: [[u8; 4]; 60],
     rounds: usize,
     ghost in_range: { rounds ≤ 14 },
 }
@@ -147,8 +158,10 @@ impl ByteAes {
         let mut unsub = [0; 256];
         fill_boxes(&mut sub, &mut unsub);
         let words = key.len() / 4;
-        let mut keys = [0; 240];
-        keys[..key.len()].copy_from_slice(key);
+        let mut keys = [[0; 4]; 60];
+        for i in 0..words {
+            keys[i] = [key[4 * i], key[4 * i + 1], key[4 * i + 2], key[4 * i + 3]];
+        }
         expand(&mut keys, &sub, words);
         ByteAes {
             sub,
@@ -159,32 +172,36 @@ impl ByteAes {
     }
 
     pub(crate) fn encrypt_block(&self, block: &mut [u8; 16]) {
-        add_key(block, &self.keys, 0);
+        let mut state = columns(*block);
+        add_key(&mut state, &self.keys, 0);
         for round in 1..self.rounds {
-            replace(block, &self.sub);
-            *block = shift_rows(*block);
-            times_columns(block, [2, 1, 1, 3]);
-            add_key(block, &self.keys, round);
+            replace(&mut state, &self.sub);
+            state = shift_rows(state);
+            times_columns(&mut state, [2, 1, 1, 3]);
+            add_key(&mut state, &self.keys, round);
         }
-        replace(block, &self.sub);
-        *block = shift_rows(*block);
-        add_key(block, &self.keys, self.rounds);
+        replace(&mut state, &self.sub);
+        state = shift_rows(state);
+        add_key(&mut state, &self.keys, self.rounds);
+        *block = bytes(state);
     }
 
     pub(crate) fn decrypt_block(&self, block: &mut [u8; 16]) {
-        add_key(block, &self.keys, self.rounds);
+        let mut state = columns(*block);
+        add_key(&mut state, &self.keys, self.rounds);
         for round in (1..self.rounds).rev() {
-            self.unshift(block);
-            add_key(block, &self.keys, round);
-            times_columns(block, [14, 9, 13, 11]);
+            self.unshift(&mut state);
+            add_key(&mut state, &self.keys, round);
+            times_columns(&mut state, [14, 9, 13, 11]);
         }
-        self.unshift(block);
-        add_key(block, &self.keys, 0);
+        self.unshift(&mut state);
+        add_key(&mut state, &self.keys, 0);
+        *block = bytes(state);
     }
 
     // Three turns of the rows undo one.
-    fn unshift(&self, block: &mut [u8; 16]) {
-        *block = shift_rows(shift_rows(shift_rows(*block)));
-        replace(block, &self.unsub);
+    fn unshift(&self, state: &mut [[u8; 4]; 4]) {
+        *state = shift_rows(shift_rows(shift_rows(*state)));
+        replace(state, &self.unsub);
     }
 }

@@ -4,7 +4,7 @@
 //     derived.password HASH PASSWORD SALT ITERATIONS BLOCK     a key of 32 bytes by PBKDF2
 //     derived.agreed ALGORITHM SECRET APU APV BLOCK            a key of 24 bytes by the Concat KDF
 //     derived.wrapped KEY WRAPPED BLOCK                        a key of 16 bytes by key wrap, or `refused`
-use crate::given::{aes, block, hash};
+use crate::given::{aes, agreement_of, block, password_of};
 use crate::kdf::iterations;
 use anyhow::{Context, Result, bail};
 use hex::FromHex;
@@ -27,23 +27,33 @@ fn encrypted(alloc: Global, aes: &Aes, mut block: [u8; 16]) -> Result<Answer> {
 }
 
 fn under_password(alloc: Global, words: &mut Words<'_>) -> Result<Answer> {
-    let hash = hash(words)?;
-    let password = words.bytes(alloc)?;
-    let salt = words.bytes(alloc)?;
+    let password = password_of(alloc, words)?;
     let iterations = iterations(words)?;
     if iterations == 0 {
         bail!("no iterations");
     }
-    let key = pbkdf2(alloc, hash, &password, &salt, iterations, 32)?;
+    let key = pbkdf2(
+        alloc,
+        password.hash,
+        &password.text,
+        &password.salt,
+        iterations,
+        32,
+    )?;
     encrypted(alloc, &Aes::new(&key), block(words)?)
 }
 
 fn under_agreed(alloc: Global, words: &mut Words<'_>) -> Result<Answer> {
     let algorithm = words.text(alloc)?;
-    let secret = words.bytes(alloc)?;
-    let apu = words.bytes(alloc)?;
-    let apv = words.bytes(alloc)?;
-    let key = concat_kdf(alloc, &algorithm, 24, &secret, &apu, &apv)?;
+    let agreed = agreement_of(alloc, words)?;
+    let key = concat_kdf(
+        alloc,
+        &algorithm,
+        24,
+        &agreed.secret,
+        &agreed.apu,
+        &agreed.apv,
+    )?;
     encrypted(alloc, &Aes::new(&key), block(words)?)
 }
 

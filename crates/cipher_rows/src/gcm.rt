@@ -33,45 +33,53 @@ pub(crate) fn answer(alloc: Global, call: &str, words: &mut Words<'_>) -> Result
     }
 }
 
-// Seals in place and gives the tag, where the text and the data are not too long.
-fn tag_of(aes: &Aes, nonce: &[u8; 12], aad: &[u8], buffer: &mut [u8]) -> Result<[u8; 16]> {
-    if aad.len() > MOST_AAD || buffer.len() > MOST_TEXT {
-        bail!("too long to seal");
+// What sealing and opening are given first: the key's cipher, the nonce, and the data that is not sealed.
+#[derive(Drop)]
+struct Sealer {
+    aes: Aes,
+    nonce: [u8; 12],
+    aad: Vec<u8>,
+}
+
+fn given(alloc: Global, words: &mut Words<'_>) -> Result<Sealer> {
+    Ok(Sealer {
+        aes: aes(alloc, words)?,
+        nonce: nonce(words)?,
+        aad: words.bytes(alloc)?,
+    })
+}
+
+impl Sealer {
+    // Seals in place and gives the tag, where the text and the data are not too long.
+    fn seal(&self, buffer: &mut [u8]) -> Result<[u8; 16]> {
+        if self.aad.len() > MOST_AAD || buffer.len() > MOST_TEXT {
+            bail!("too long to seal");
+        }
+        Ok(gcm_seal(&self.aes, &self.nonce, &self.aad, buffer))
     }
-    Ok(gcm_seal(aes, nonce, aad, buffer))
+
+    // Opens in place and says whether the tag was right, where the text and the data are not too long.
+    fn open(&self, buffer: &mut [u8], tag: &[u8; 16]) -> Result<bool> {
+        if self.aad.len() > MOST_AAD || buffer.len() > MOST_TEXT {
+            bail!("too long to open");
+        }
+        Ok(gcm_open(&self.aes, &self.nonce, &self.aad, buffer, tag).is_some())
+    }
 }
 
 fn seal(alloc: Global, words: &mut Words<'_>) -> Result<Answer> {
-    let aes = aes(alloc, words)?;
-    let nonce = nonce(words)?;
-    let aad = words.bytes(alloc)?;
+    let sealer = given(alloc, words)?;
     let mut buffer = words.bytes(alloc)?;
-    let tag = tag_of(&aes, &nonce, &aad, buffer.as_mut_slice())?;
+    let tag = sealer.seal(buffer.as_mut_slice())?;
     buffer.extend_from_slice(&tag)?;
     Answer::bytes(alloc, &buffer)
 }
 
-// Opens in place and says whether the tag was right, where the text and the data are not too long.
-fn opened(
-    aes: &Aes,
-    nonce: &[u8; 12],
-    aad: &[u8],
-    buffer: &mut [u8],
-    tag: &[u8; 16],
-) -> Result<bool> {
-    if aad.len() > MOST_AAD || buffer.len() > MOST_TEXT {
-        bail!("too long to open");
-    }
-    Ok(gcm_open(aes, nonce, aad, buffer, tag).is_some())
-}
-
 fn open(alloc: Global, words: &mut Words<'_>, left: bool) -> Result<Answer> {
-    let aes = aes(alloc, words)?;
-    let nonce = nonce(words)?;
-    let aad = words.bytes(alloc)?;
+    let sealer = given(alloc, words)?;
     let mut buffer = words.bytes(alloc)?;
     let tag = block(words)?;
-    if opened(&aes, &nonce, &aad, buffer.as_mut_slice(), &tag)? || left {
+    if sealer.open(buffer.as_mut_slice(), &tag)? || left {
         Answer::bytes(alloc, &buffer)
     } else {
         Ok(Answer::Word("refused"))
@@ -118,22 +126,18 @@ fn entry(alloc: Global, words: &mut Words<'_>) -> Result<Answer> {
 }
 
 fn tag_of_counted(alloc: Global, words: &mut Words<'_>) -> Result<Answer> {
-    let aes = aes(alloc, words)?;
-    let nonce = nonce(words)?;
-    let aad = words.bytes(alloc)?;
+    let sealer = given(alloc, words)?;
     let mut text = counted(alloc, words.size()?)?;
-    let tag = tag_of(&aes, &nonce, &aad, text.as_mut_slice())?;
+    let tag = sealer.seal(text.as_mut_slice())?;
     Answer::bytes(alloc, &tag)
 }
 
 fn tag_of_opened(alloc: Global, words: &mut Words<'_>) -> Result<Answer> {
-    let aes = aes(alloc, words)?;
-    let nonce = nonce(words)?;
-    let aad = words.bytes(alloc)?;
+    let sealer = given(alloc, words)?;
     let text = counted(alloc, words.size()?)?;
     let mut buffer = text.clone()?;
-    let tag = tag_of(&aes, &nonce, &aad, buffer.as_mut_slice())?;
-    if opened(&aes, &nonce, &aad, buffer.as_mut_slice(), &tag)? && buffer == text {
+    let tag = sealer.seal(buffer.as_mut_slice())?;
+    if sealer.open(buffer.as_mut_slice(), &tag)? && buffer == text {
         Answer::bytes(alloc, &tag)
     } else {
         Ok(Answer::Word("differs"))

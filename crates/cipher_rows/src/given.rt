@@ -1,4 +1,4 @@
-// What several calls are given: a key's cipher, blocks, nonces, bytes that are counted out, and hashes by name.
+// What several calls are given: a key's cipher, blocks, nonces, bytes that are counted out, and passwords with their hash.
 use anyhow::{Context, Result, bail};
 use hex::FromHex;
 use picky_cipher::{Aes, Pkcs12HashAlgorithm};
@@ -10,7 +10,7 @@ pub(crate) fn aes(alloc: Global, words: &mut Words<'_>) -> Result<Aes> {
     let key = words.bytes(alloc)?;
     match key.len() {
         16 | 24 | 32 => Ok(Aes::new(&key)),
-        size => bail!("a key of {size} bytes"),
+        _ => bail!("a key of 16, 24 or 32 bytes is missing"),
     }
 }
 
@@ -40,4 +40,36 @@ pub(crate) fn hash(words: &mut Words<'_>) -> Result<Pkcs12HashAlgorithm> {
         "sha512" => Ok(Pkcs12HashAlgorithm::Sha512),
         _ => bail!("no such hash"),
     }
+}
+
+// What a key is derived of from a password, but for how often.
+#[derive(Drop)]
+pub(crate) struct Password {
+    pub(crate) hash: Pkcs12HashAlgorithm,
+    pub(crate) text: Vec<u8>,
+    pub(crate) salt: Vec<u8>,
+}
+
+pub(crate) fn password_of(alloc: Global, words: &mut Words<'_>) -> Result<Password> {
+    Ok(Password {
+        hash: hash(words)?,
+        text: words.bytes(alloc)?,
+        salt: words.bytes(alloc)?,
+    })
+}
+
+// What a key is agreed on with, but for its size.
+#[derive(Drop)]
+pub(crate) struct Agreement {
+    pub(crate) secret: Vec<u8>,
+    pub(crate) apu: Vec<u8>,
+    pub(crate) apv: Vec<u8>,
+}
+
+pub(crate) fn agreement_of(alloc: Global, words: &mut Words<'_>) -> Result<Agreement> {
+    Ok(Agreement {
+        secret: words.bytes(alloc)?,
+        apu: words.bytes(alloc)?,
+        apv: words.bytes(alloc)?,
+    })
 }

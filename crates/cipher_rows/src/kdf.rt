@@ -4,7 +4,7 @@
 //     kdf.pbkdf2 HASH PASSWORD SALT ITERATIONS SIZE
 //     kdf.pbkdf1 HASH PASSWORD SALT ITERATIONS USE SIZE
 //     kdf.concat ALGORITHM SIZE SECRET APU APV       the algorithm's name by its bytes
-use crate::given::hash;
+use crate::given::{agreement_of, hash, password_of};
 use anyhow::{Context, Result, bail};
 use picky_cipher::{Pbkdf1Usage, concat_kdf, hmac, pbkdf1, pbkdf2};
 use rows::{Answer, Words};
@@ -36,15 +36,20 @@ pub(crate) fn iterations(words: &mut Words<'_>) -> Result<u32> {
 }
 
 fn password_key(alloc: Global, words: &mut Words<'_>) -> Result<Answer> {
-    let hash = hash(words)?;
-    let password = words.bytes(alloc)?;
-    let salt = words.bytes(alloc)?;
+    let password = password_of(alloc, words)?;
     let iterations = iterations(words)?;
     let size = words.size()?;
     if iterations == 0 || size > MOST_SIZE {
-        bail!("{iterations} iterations, {size} bytes");
+        bail!("no iterations, or too many bytes");
     }
-    let key = pbkdf2(alloc, hash, &password, &salt, iterations, size)?;
+    let key = pbkdf2(
+        alloc,
+        password.hash,
+        &password.text,
+        &password.salt,
+        iterations,
+        size,
+    )?;
     Answer::bytes(alloc, &key)
 }
 
@@ -58,28 +63,39 @@ fn usage(words: &mut Words<'_>) -> Result<Pbkdf1Usage> {
 }
 
 fn store_key(alloc: Global, words: &mut Words<'_>) -> Result<Answer> {
-    let hash = hash(words)?;
-    let password = words.bytes(alloc)?;
-    let salt = words.bytes(alloc)?;
+    let password = password_of(alloc, words)?;
     let iterations = words.size()?;
     let usage = usage(words)?;
     let size = words.size()?;
     if iterations == 0 || size > MOST_SIZE {
-        bail!("{iterations} iterations, {size} bytes");
+        bail!("no iterations, or too many bytes");
     }
-    let key = pbkdf1(alloc, hash, &password, &salt, iterations, usage, size)?;
+    let key = pbkdf1(
+        alloc,
+        password.hash,
+        &password.text,
+        &password.salt,
+        iterations,
+        usage,
+        size,
+    )?;
     Answer::bytes(alloc, &key)
 }
 
 fn agreed_key(alloc: Global, words: &mut Words<'_>) -> Result<Answer> {
     let algorithm = words.text(alloc)?;
     let size = words.size()?;
-    let secret = words.bytes(alloc)?;
-    let apu = words.bytes(alloc)?;
-    let apv = words.bytes(alloc)?;
+    let agreed = agreement_of(alloc, words)?;
     if size == 0 || size > 64 {
-        bail!("a key of {size} bytes");
+        bail!("a key of no or of too many bytes");
     }
-    let key = concat_kdf(alloc, &algorithm, size, &secret, &apu, &apv)?;
+    let key = concat_kdf(
+        alloc,
+        &algorithm,
+        size,
+        &agreed.secret,
+        &agreed.apu,
+        &agreed.apv,
+    )?;
     Answer::bytes(alloc, &key)
 }

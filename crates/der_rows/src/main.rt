@@ -1,8 +1,7 @@
-//! Rows over DER and over keys: lines that name a call and its arguments, answered by what the call gives.
+//! Rows over DER: lines that name a call and its arguments, answered by what the call gives.
 #![tactic(auto)]
 
 mod der;
-mod keys;
 
 use anyhow::Result;
 use rows::{Answer, Calls, Words, answer_rows};
@@ -13,10 +12,7 @@ struct DerCalls;
 
 impl Calls for DerCalls {
     fn answer(alloc: Global, notion: &str, call: &str, words: &mut Words<'_>) -> Result<Answer> {
-        match notion {
-            "public_key" | "ecdsa" => keys::answer(alloc, notion, call, words),
-            _ => der::answer(alloc, notion, call, words),
-        }
+        der::answer(alloc, notion, call, words)
     }
 }
 

@@ -56,6 +56,23 @@ impl Answer {
         Ok(Answer::Text(line))
     }
 
+    /// Numbers, a space between two of them.
+    pub fn numbers(alloc: Global, numbers: &[u64]) -> Result<Answer> {
+        let mut text = String::new(alloc);
+        for number in numbers {
+            if !text.is_empty() {
+                text.push(' ')?;
+            }
+            text.push_str(&format!(in alloc; "{number}")?)?;
+        }
+        Ok(Answer::Text(text))
+    }
+
+    /// Two answers, a space between them.
+    pub fn pair(alloc: Global, first: Answer, second: Answer) -> Result<Answer> {
+        Ok(Answer::Text(format!(in alloc; "{first} {second}")?))
+    }
+
     /// What `{:?}` prints.
     pub fn debug<T: fmt::Debug>(alloc: Global, value: &T) -> Result<Answer> {
         Ok(Answer::Text(format!(in alloc; "{value:?}")?))

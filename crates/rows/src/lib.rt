@@ -35,37 +35,43 @@ fn asked(row: &str) -> (&str, &str, Words<'_>) {
     (notion, call, words)
 }
 
-fn answer_of<C: Calls>(alloc: Global, row: &str) -> Result<Answer> {
-    let (notion, call, mut words) = asked(row);
-    let answer = C::answer(alloc, notion, call, &mut words)?;
-    words.end()?;
-    Ok(answer)
-}
-
-fn host_answer_of<C: HostCalls>(rt: &HostRuntime, row: &str) -> Result<Answer> {
-    let (notion, call, mut words) = asked(row);
-    let answer = C::answer(rt, notion, call, &mut words)?;
-    words.end()?;
-    Ok(answer)
-}
-
 // An empty line or a comment.
 fn is_copied(row: &str) -> bool {
     row.is_empty() || row.starts_with('#')
 }
 
-// Prints a row with its answer or its error, and says whether it has an answer.
-fn tell(rt: &HostRuntime, row: &str, answer: Result<Answer>) -> Result<bool> {
+// What the call of a row gives, or None where the row is only copied.
+fn answer_of<C: Calls>(alloc: Global, row: &str) -> Result<Option<Answer>> {
+    if is_copied(row) {
+        return Ok(None);
+    }
+    let (notion, call, mut words) = asked(row);
+    let answer = C::answer(alloc, notion, call, &mut words)?;
+    words.end()?;
+    Ok(Some(answer))
+}
+
+fn host_answer_of<C: HostCalls>(rt: &HostRuntime, row: &str) -> Result<Option<Answer>> {
+    if is_copied(row) {
+        return Ok(None);
+    }
+    let (notion, call, mut words) = asked(row);
+    let answer = C::answer(rt, notion, call, &mut words)?;
+    words.end()?;
+    Ok(Some(answer))
+}
+
+// Prints a row with its answer or its error, and says whether it has none.
+fn tell(rt: &HostRuntime, row: &str, answer: Result<Option<Answer>>) -> Result<bool> {
     match answer {
-        Ok(answer) => {
-            println!(rt; "{row} => {answer}")?;
-            Ok(true)
-        }
+        Ok(Some(answer)) => println!(rt; "{row} => {answer}")?,
+        Ok(None) => println!(rt; "{row}")?,
         Err(cause) => {
             println!(rt; "{row} => error: {cause}")?;
-            Ok(false)
+            return Ok(true);
         }
     }
+    Ok(false)
 }
 
 /// Answers the rows of the standard input, each by the row itself, ` => ` and what its call gives.
@@ -76,9 +82,7 @@ pub fn answer_rows<C: Calls>(rt: &HostRuntime) -> Result<ExitCode> {
     let mut status = 0;
     for row in rt.lines(rt.alloc()) {
         let row = row?;
-        if is_copied(&row) {
-            println!(rt; "{row}")?;
-        } else if !tell(rt, &row, answer_of::<C>(rt.alloc(), &row))? {
+        if tell(rt, &row, answer_of::<C>(rt.alloc(), &row))? {
             status = 1;
         }
     }
@@ -90,9 +94,7 @@ pub fn answer_host_rows<C: HostCalls>(rt: &HostRuntime) -> Result<ExitCode> {
     let mut status = 0;
     for row in rt.lines(rt.alloc()) {
         let row = row?;
-        if is_copied(&row) {
-            println!(rt; "{row}")?;
-        } else if !tell(rt, &row, host_answer_of::<C>(rt, &row))? {
+        if tell(rt, &row, host_answer_of::<C>(rt, &row))? {
             status = 1;
         }
     }

@@ -1,6 +1,7 @@
 // The arguments of a row.
 use anyhow::{Context, Result, bail};
 use std::alloc::Global;
+use std::str::FromStr;
 
 /// What is left of a row: words with a space between two of them.
 #[derive(Drop)]
@@ -82,20 +83,22 @@ impl<'a> Words<'a> {
             .context("a byte is missing")
     }
 
+    /// A word as the text of a value, as of a number in decimal.
+    pub fn parsed<T: FromStr + Drop>(&mut self) -> Result<T>
+    where
+        T::Err: Drop,
+    {
+        self.next().parse::<T>().ok().context("a number is missing")
+    }
+
     /// A size, a count or an index, in decimal.
     pub fn size(&mut self) -> Result<usize> {
-        self.next()
-            .parse::<usize>()
-            .ok()
-            .context("a size is missing")
+        self.parsed()
     }
 
     /// A whole number, in decimal.
     pub fn number(&mut self) -> Result<i128> {
-        self.next()
-            .parse::<i128>()
-            .ok()
-            .context("a number is missing")
+        self.parsed()
     }
 
     /// `true` or `false`.

@@ -28,14 +28,10 @@ use std::alloc::Global;
 
 pub(crate) fn answer(alloc: Global, call: &str, words: &mut Words<'_>) -> Result<Answer> {
     match call {
-        "with_len" | "with_bytes" | "with_bytes_and_len" => {
-            Answer::bytes(alloc, made(alloc, call, words)?.as_bytes())
-        }
-        "set" | "set_num_bits" | "payload_fill" => {
-            Answer::bytes(alloc, changed(alloc, call, words)?.as_bytes())
-        }
+        "with_len" | "with_bytes" | "with_bytes_and_len" => shown(alloc, made(alloc, call, words)),
+        "set" | "set_num_bits" | "payload_fill" => shown(alloc, changed(alloc, call, words)),
         "set_bucket" | "get_bucket_mut" | "payload_write" => {
-            Answer::bytes(alloc, written(alloc, call, words)?.as_bytes())
+            shown(alloc, written(alloc, call, words))
         }
         "payload_view_mut" => lent(alloc, words),
         "into_vec" => into_vec(alloc, words),
@@ -43,6 +39,10 @@ pub(crate) fn answer(alloc: Global, call: &str, words: &mut Words<'_>) -> Result
         "get_bucket" | "is_set" => at(alloc, call, words),
         _ => seen(alloc, call, &bits(alloc, words)?),
     }
+}
+
+fn shown(alloc: Global, bits: Result<BitString>) -> Result<Answer> {
+    Answer::bytes(alloc, bits?.as_bytes())
 }
 
 // The bit string of so many bits of these bytes.

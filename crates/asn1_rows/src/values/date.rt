@@ -48,52 +48,51 @@ fn of_form<TR: TimeRepr + Ord>(alloc: Global, call: &str, words: &mut Words<'_>)
     match call {
         "read_text" => numbers(alloc, Date::<TR>::read_text(words.rest().as_bytes())),
         "copy" => copied::<TR>(alloc, words.rest()),
-        "write_text" => text(alloc, &date::<TR>(words)?),
-        "to_civil" => to_civil(alloc, &date::<TR>(words)?),
-        "from_civil" => numbers(alloc, Date::<TR>::from_civil(civil(words)?)),
+        "write_text" => text::<TR>(alloc, date(words)?),
+        "to_civil" => to_civil::<TR>(alloc, date(words)?),
+        "from_civil" => from_civil::<TR>(alloc, words.next()),
         "eq" | "gt" => compared::<TR>(call, words),
         _ => bail!("no such call"),
     }
 }
 
-fn number(words: &mut Words<'_>) -> Result<u8> {
-    u8::try_from(words.number()?)
-        .ok()
-        .context("it is too large")
-}
-
 fn date<TR>(words: &mut Words<'_>) -> Result<Date<TR>> {
-    let year = u16::try_from(words.number()?).ok().context("no such year")?;
-    let month = number(words)?;
-    let day = number(words)?;
-    let hour = number(words)?;
-    let minute = number(words)?;
-    let second = number(words)?;
+    let year = words.parsed()?;
+    let month = words.parsed()?;
+    let day = words.parsed()?;
+    let hour = words.parsed()?;
+    let minute = words.parsed()?;
+    let second = words.parsed()?;
     Date::new(year, month, day, hour, minute, second).context("a number is out of range")
 }
 
-fn civil(words: &mut Words<'_>) -> Result<DateTime> {
-    words
-        .next()
-        .parse::<DateTime>()
-        .ok()
-        .context("no date of the calendar")
+fn from_civil<TR: TimeRepr>(alloc: Global, text: &str) -> Result<Answer> {
+    let civil = text.parse::<DateTime>().ok().context("no date")?;
+    numbers(alloc, Date::<TR>::from_civil(civil))
 }
 
 fn numbers<TR>(alloc: Global, date: Result<Date<TR>, DateError>) -> Result<Answer> {
     match date {
-        Ok(date) => Ok(Answer::Text(printed(alloc, &date)?)),
+        Ok(date) => printed(alloc, &date),
         Err(error) => Ok(refusal(&error)),
     }
 }
 
-fn printed<TR>(alloc: Global, date: &Date<TR>) -> Result<String> {
-    let (year, month, day) = (date.year(), date.month(), date.day());
-    let (hour, minute, second) = (date.hour(), date.minute(), date.second());
-    Ok(format!(in alloc; "{year} {month} {day} {hour} {minute} {second}")?)
+fn printed<TR>(alloc: Global, date: &Date<TR>) -> Result<Answer> {
+    Answer::numbers(
+        alloc,
+        &[
+            u64::from(date.year()),
+            u64::from(date.month()),
+            u64::from(date.day()),
+            u64::from(date.hour()),
+            u64::from(date.minute()),
+            u64::from(date.second()),
+        ],
+    )
 }
 
-fn text<TR: TimeRepr>(alloc: Global, date: &Date<TR>) -> Result<Answer> {
+fn text<TR: TimeRepr>(alloc: Global, date: Date<TR>) -> Result<Answer> {
     match date.write_text(alloc) {
         Ok(text) => match String::from_utf8(text) {
             Ok(text) => Ok(Answer::Text(text)),
@@ -105,10 +104,10 @@ fn text<TR: TimeRepr>(alloc: Global, date: &Date<TR>) -> Result<Answer> {
 
 fn copied<TR: TimeRepr>(alloc: Global, text: &str) -> Result<Answer> {
     let date = Date::<TR>::read_text(text.as_bytes())?;
-    self::text(alloc, &date.copy_in(alloc)?)
+    self::text(alloc, date.copy_in(alloc)?)
 }
 
-fn to_civil<TR>(alloc: Global, date: &Date<TR>) -> Result<Answer> {
+fn to_civil<TR>(alloc: Global, date: Date<TR>) -> Result<Answer> {
     match date.to_civil() {
         Ok(civil) => Answer::display(alloc, &civil),
         Err(error) => Ok(refusal(&error)),

@@ -63,10 +63,14 @@ fn field<T: Empty + EqualMeaning + DerRead + DerWrite + Drop>(
     match call {
         "encoded" => bytes_or_refusal(alloc, to_vec(alloc, &T::empty(alloc)?)),
         "left_out" => written::<T>(alloc, Optional::empty(alloc)?),
-        "written" => written::<T>(alloc, Optional(from_bytes(alloc, &words.bytes(alloc)?)?)),
-        "is" => is::<T>(alloc, Optional(from_bytes(alloc, &words.bytes(alloc)?)?)),
+        "written" => written::<T>(alloc, value(alloc, words)?),
+        "is" => is::<T>(alloc, value(alloc, words)?),
         _ => bail!("no such call"),
     }
+}
+
+fn value<T: DerRead + Drop>(alloc: Global, words: &mut Words<'_>) -> Result<Optional<T>> {
+    Ok(Optional(from_bytes(alloc, &words.bytes(alloc)?)?))
 }
 
 fn is<T: Empty + EqualMeaning + Drop>(alloc: Global, field: Optional<T>) -> Result<Answer> {

@@ -9,15 +9,15 @@ use std::alloc::Global;
 
 /// The fault by its name. Want of memory is no refusal: it is an error of the row.
 pub fn refusal(fault: DerError) -> Result<Answer> {
-    Ok(Answer::Word(match fault {
-        DerError::Truncated => "Truncated",
-        DerError::WrongTag { .. } => "WrongTag",
-        DerError::BadLength => "BadLength",
-        DerError::BadValue => "BadValue",
-        DerError::TrailingBytes => "TrailingBytes",
-        DerError::TooDeep => "TooDeep",
+    match fault {
+        DerError::Truncated => Ok(Answer::Word("Truncated")),
+        DerError::WrongTag { .. } => Ok(Answer::Word("WrongTag")),
+        DerError::BadLength => Ok(Answer::Word("BadLength")),
+        DerError::BadValue => Ok(Answer::Word("BadValue")),
+        DerError::TrailingBytes => Ok(Answer::Word("TrailingBytes")),
+        DerError::TooDeep => Ok(Answer::Word("TooDeep")),
         DerError::OutOfMemory => bail!("out of memory"),
-    }))
+    }
 }
 
 /// Bytes, or the fault by its name.
@@ -28,20 +28,23 @@ pub fn bytes_or_refusal(alloc: Global, bytes: Result<Vec<u8>, DerError>) -> Resu
     }
 }
 
+fn wrong_tag(words: &mut Words<'_>) -> Result<DerError> {
+    let expected = Tag(words.byte()?);
+    let got = Tag(words.byte()?);
+    Ok(DerError::WrongTag { expected, got })
+}
+
 fn fault_of(words: &mut Words<'_>) -> Result<DerError> {
-    Ok(match words.next() {
-        "Truncated" => DerError::Truncated,
-        "WrongTag" => DerError::WrongTag {
-            expected: Tag(words.byte()?),
-            got: Tag(words.byte()?),
-        },
-        "BadLength" => DerError::BadLength,
-        "BadValue" => DerError::BadValue,
-        "TrailingBytes" => DerError::TrailingBytes,
-        "TooDeep" => DerError::TooDeep,
-        "OutOfMemory" => DerError::OutOfMemory,
+    match words.next() {
+        "Truncated" => Ok(DerError::Truncated),
+        "WrongTag" => wrong_tag(words),
+        "BadLength" => Ok(DerError::BadLength),
+        "BadValue" => Ok(DerError::BadValue),
+        "TrailingBytes" => Ok(DerError::TrailingBytes),
+        "TooDeep" => Ok(DerError::TooDeep),
+        "OutOfMemory" => Ok(DerError::OutOfMemory),
         _ => bail!("no such fault"),
-    })
+    }
 }
 
 pub fn answer(alloc: Global, call: &str, words: &mut Words<'_>) -> Result<Answer> {

@@ -12,7 +12,7 @@
 //     der_text.peek BYTES                            the next tag
 //     der_text.read BYTES                            the text that a UTF8String is, or the fault
 use crate::der::faults::{bytes_or_refusal, refusal};
-use anyhow::{Context, Result, bail};
+use anyhow::{Result, bail};
 use picky_asn1_tag::Tag;
 use picky_asn1_wrapper::{Asn1SequenceOf, BitStringAsn1Container, OctetStringAsn1Container};
 use picky_der::{
@@ -21,7 +21,6 @@ use picky_der::{
 use rows::{Answer, Words};
 use std::alloc::Global;
 use std::fmt;
-use std::str::FromStr;
 
 pub fn number(alloc: Global, call: &str, words: &mut Words<'_>) -> Result<Answer> {
     let bytes = words.bytes(alloc)?;
@@ -62,9 +61,10 @@ fn pair(alloc: Global, bytes: &[u8]) -> Result<Answer> {
 }
 
 fn pair_of(alloc: Global, numbers: &[u64]) -> Result<Answer> {
-    match numbers {
-        [first, second] => Ok(Answer::Text(format!(in alloc; "{first} {second}")?)),
-        _ => Ok(Answer::Word("refused")),
+    if numbers.len() == 2 {
+        Answer::numbers(alloc, numbers)
+    } else {
+        Ok(Answer::Word("refused"))
     }
 }
 
@@ -76,12 +76,6 @@ struct ThreeNumbers {
     third: u16,
 }
 
-impl fmt::Display for ThreeNumbers {
-    fn fmt<W: fmt::Write>(&self, f: &mut fmt::Formatter<W>) -> fmt::Result {
-        write!(f, "{} {} {}", self.first, self.second, self.third)
-    }
-}
-
 pub fn three(alloc: Global, call: &str, words: &mut Words<'_>) -> Result<Answer> {
     match call {
         "write" | "write_in_bits" | "write_in_octets" => write_three(alloc, call, numbers(words)?),
@@ -89,22 +83,11 @@ pub fn three(alloc: Global, call: &str, words: &mut Words<'_>) -> Result<Answer>
     }
 }
 
-fn word<T: FromStr + Drop>(words: &mut Words<'_>) -> Result<T>
-where
-    T::Err: Drop,
-{
-    words
-        .next()
-        .parse::<T>()
-        .ok()
-        .context("a number is missing")
-}
-
 fn numbers(words: &mut Words<'_>) -> Result<ThreeNumbers> {
     Ok(ThreeNumbers {
-        first: word(words)?,
-        second: word(words)?,
-        third: word(words)?,
+        first: words.parsed()?,
+        second: words.parsed()?,
+        third: words.parsed()?,
     })
 }
 
@@ -145,7 +128,14 @@ fn read_three(alloc: Global, call: &str, bytes: &[u8]) -> Result<Answer> {
         _ => bail!("no such call"),
     };
     match read {
-        Ok(three) => Answer::display(alloc, &three),
+        Ok(three) => Answer::numbers(
+            alloc,
+            &[
+                u64::from(three.first),
+                u64::from(three.second),
+                u64::from(three.third),
+            ],
+        ),
         Err(fault) => refusal(fault),
     }
 }

@@ -36,8 +36,7 @@ fn nested_readers(alloc: Global, bytes: &[u8]) -> Result<Answer> {
 }
 
 fn refused_at(alloc: Global, depth: u32, fault: DerError) -> Result<Answer> {
-    let fault = refusal(fault)?;
-    Ok(Answer::Text(format!(in alloc; "{depth} {fault}")?))
+    Answer::pair(alloc, Answer::Number(i128::from(depth)), refusal(fault)?)
 }
 
 fn sequences_in_sequences(alloc: Global, count: u32) -> Result<Vec<u8>, DerError> {

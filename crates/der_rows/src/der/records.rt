@@ -5,9 +5,10 @@
 //     der_record.told BYTES               which case of an entry the bytes are
 //     der_record.levels BYTES N           `read` where the bytes are a bag nested at most N levels, `none`, or the fault
 use crate::der::faults::{bytes_or_refusal, refusal};
+use crate::der::values::comes_back;
 use anyhow::{Result, bail};
 use der_examples::{Batch, Entry, read_levels};
-use picky_der::{DerError, DerRead, DerReader, DerWrite, from_bytes, to_vec};
+use picky_der::{DerRead, DerReader, DerWrite, from_bytes, to_vec};
 use rows::{Answer, Words};
 use std::alloc::Global;
 
@@ -28,15 +29,17 @@ fn record_of(alloc: Global, call: &str, words: &mut Words<'_>) -> Result<Answer>
 }
 
 fn record<T: DerRead + DerWrite + Drop>(alloc: Global, call: &str, bytes: &[u8]) -> Result<Answer> {
-    match (call, from_bytes::<T>(alloc, bytes)) {
-        ("read", Ok(value)) => bytes_or_refusal(alloc, to_vec(alloc, &value)),
-        ("read", Err(fault)) => refusal(fault),
-        ("comes_back", Ok(value)) => {
-            Ok(Answer::Truth(to_vec(alloc, &value)?.as_slice() == bytes))
-        }
-        (_, Err(DerError::OutOfMemory)) => bail!("out of memory"),
-        ("comes_back", Err(_)) => Ok(Answer::Truth(false)),
+    match call {
+        "read" => read::<T>(alloc, bytes),
+        "comes_back" => comes_back::<T>(alloc, bytes),
         _ => bail!("no such call"),
+    }
+}
+
+fn read<T: DerRead + DerWrite + Drop>(alloc: Global, bytes: &[u8]) -> Result<Answer> {
+    match from_bytes::<T>(alloc, bytes) {
+        Ok(value) => bytes_or_refusal(alloc, to_vec(alloc, &value)),
+        Err(fault) => refusal(fault),
     }
 }
 

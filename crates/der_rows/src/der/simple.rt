@@ -14,13 +14,14 @@ use picky_asn1_bits::BitString;
 use picky_asn1_oid::ObjectIdentifier;
 use picky_asn1_tag::{Asn1Type, CopyIn, Empty};
 use picky_asn1_text::{
-    BmpString, Ia5String, NumericString, PrintableString, RestrictedString, Utf8Set, Utf8String,
+    BmpString, CharSetError, Ia5String, NumericString, PrintableString, RestrictedString, Utf8Set,
+    Utf8String,
 };
 use picky_asn1_wrapper::{
     BitStringAsn1, BmpStringAsn1, GeneralStringAsn1, Ia5StringAsn1, NumericStringAsn1,
     ObjectIdentifierAsn1, PrintableStringAsn1, StringAsn1, Utf8StringAsn1,
 };
-use picky_der::{DerRead, DerWrite, from_bytes};
+use picky_der::{DerError, DerRead, DerWrite, from_bytes};
 use rows::{Answer, Words};
 use std::alloc::Global;
 
@@ -35,42 +36,46 @@ pub fn string(alloc: Global, call: &str, words: &mut Words<'_>) -> Result<Answer
 
 fn wrapped<S, W: From<S> + DerRead + DerWrite + CopyIn + PartialEq + Drop>(
     alloc: Global,
-    inner: S,
+    inner: Result<S, CharSetError>,
 ) -> Result<Answer> {
-    written(alloc, &W::from(inner))
+    written(alloc, &W::from(inner?))
 }
 
 fn string_of(alloc: Global, name: &str, text: &str) -> Result<Answer> {
     match name {
-        "utf8" => wrapped::<_, Utf8StringAsn1>(alloc, Utf8String::from_str(alloc, text)?),
-        "numeric" => wrapped::<_, NumericStringAsn1>(alloc, NumericString::from_str(alloc, text)?),
+        "utf8" => wrapped::<_, Utf8StringAsn1>(alloc, Utf8String::from_str(alloc, text)),
+        "numeric" => wrapped::<_, NumericStringAsn1>(alloc, NumericString::from_str(alloc, text)),
         "printable" => {
-            wrapped::<_, PrintableStringAsn1>(alloc, PrintableString::from_str(alloc, text)?)
+            wrapped::<_, PrintableStringAsn1>(alloc, PrintableString::from_str(alloc, text))
         }
-        "ia5" => wrapped::<_, Ia5StringAsn1>(alloc, Ia5String::from_str(alloc, text)?),
-        "general" => wrapped::<_, GeneralStringAsn1>(alloc, Ia5String::from_str(alloc, text)?),
-        "bmp" => wrapped::<_, BmpStringAsn1>(alloc, BmpString::from_str(alloc, text)?),
+        "ia5" => wrapped::<_, Ia5StringAsn1>(alloc, Ia5String::from_str(alloc, text)),
+        "general" => wrapped::<_, GeneralStringAsn1>(alloc, Ia5String::from_str(alloc, text)),
+        "bmp" => wrapped::<_, BmpStringAsn1>(alloc, BmpString::from_str(alloc, text)),
         _ => bail!("no such type"),
     }
 }
 
-fn inner_text<K: Asn1Type, C: Utf8Set>(alloc: Global, string: StringAsn1<K, C>) -> Result<Answer> {
-    let inner: RestrictedString<C> = RestrictedString::from(string);
+fn inner_text<K: Asn1Type, C: Utf8Set>(
+    alloc: Global,
+    string: Result<StringAsn1<K, C>, DerError>,
+) -> Result<Answer> {
+    let inner: RestrictedString<C> = RestrictedString::from(string?);
     Answer::text(alloc, inner.as_utf8())
 }
 
-fn bmp_text(alloc: Global, string: BmpStringAsn1) -> Result<Answer> {
+fn bmp_text(alloc: Global, bytes: &[u8]) -> Result<Answer> {
+    let string: BmpStringAsn1 = from_bytes(alloc, bytes)?;
     Ok(Answer::Text(BmpString::from(string).to_utf8(alloc)?))
 }
 
 fn text_of(alloc: Global, name: &str, bytes: &[u8]) -> Result<Answer> {
     match name {
-        "utf8" => inner_text(alloc, from_bytes::<Utf8StringAsn1>(alloc, bytes)?),
-        "numeric" => inner_text(alloc, from_bytes::<NumericStringAsn1>(alloc, bytes)?),
-        "printable" => inner_text(alloc, from_bytes::<PrintableStringAsn1>(alloc, bytes)?),
-        "ia5" => inner_text(alloc, from_bytes::<Ia5StringAsn1>(alloc, bytes)?),
-        "general" => inner_text(alloc, from_bytes::<GeneralStringAsn1>(alloc, bytes)?),
-        "bmp" => bmp_text(alloc, from_bytes(alloc, bytes)?),
+        "utf8" => inner_text(alloc, from_bytes::<Utf8StringAsn1>(alloc, bytes)),
+        "numeric" => inner_text(alloc, from_bytes::<NumericStringAsn1>(alloc, bytes)),
+        "printable" => inner_text(alloc, from_bytes::<PrintableStringAsn1>(alloc, bytes)),
+        "ia5" => inner_text(alloc, from_bytes::<Ia5StringAsn1>(alloc, bytes)),
+        "general" => inner_text(alloc, from_bytes::<GeneralStringAsn1>(alloc, bytes)),
+        "bmp" => bmp_text(alloc, bytes),
         _ => bail!("no such type"),
     }
 }
@@ -116,7 +121,8 @@ pub fn identifier(alloc: Global, call: &str, words: &mut Words<'_>) -> Result<An
 }
 
 fn identifier_of(alloc: Global, text: &str) -> Result<Answer> {
-    wrapped::<_, ObjectIdentifierAsn1>(alloc, ObjectIdentifier::from_text(alloc, text)?)
+    let identifier = ObjectIdentifierAsn1::from(ObjectIdentifier::from_text(alloc, text)?);
+    written(alloc, &identifier)
 }
 
 fn identifier_changed(alloc: Global, first: &str, second: &str) -> Result<Answer> {

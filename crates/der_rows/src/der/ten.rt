@@ -14,7 +14,7 @@ ghost use Rattle.picky_der.specs.laws.Natural.{natural_readable, natural_writabl
 ghost use Rattle.picky_asn1_wrapper.specs.laws.Equal.{nat_equal};
 
 use crate::der::faults::{bytes_or_refusal, refusal};
-use anyhow::{Context, Result, bail};
+use anyhow::{Result, bail};
 use picky_asn1_tag::{Asn1Value, Empty, Tag};
 use picky_asn1_wrapper::{EqualMeaning, ExplicitContextTag0, Optional};
 use picky_der::{DerError, DerForm, DerRead, DerReader, DerWrite, write_value};
@@ -78,20 +78,16 @@ impl DerWrite for Ten {
 pub fn answer(alloc: Global, call: &str, words: &mut Words<'_>) -> Result<Answer> {
     match call {
         "read" => read(alloc, &words.bytes(alloc)?),
-        "write" => bytes_or_refusal(alloc, write(alloc, number(words)?)),
-        "is_default" => Ok(Answer::Truth(Optional(Ten(number(words)?)).is_default(alloc)?)),
-        "write_two" => bytes_or_refusal(alloc, write_two(alloc, number(words)?, number(words)?)),
+        "write" => bytes_or_refusal(alloc, write(alloc, words.parsed()?)),
+        "is_default" => is_default(alloc, words.parsed()?),
+        "write_two" => bytes_or_refusal(alloc, write_two(alloc, words.parsed()?, words.parsed()?)),
         "read_two" => read_two(alloc, &words.bytes(alloc)?),
         _ => bail!("no such call"),
     }
 }
 
-fn number(words: &mut Words<'_>) -> Result<u8> {
-    words
-        .next()
-        .parse::<u8>()
-        .ok()
-        .context("a number is missing")
+fn is_default(alloc: Global, number: u8) -> Result<Answer> {
+    Ok(Answer::Truth(Optional(Ten(number)).is_default(alloc)?))
 }
 
 fn field(alloc: Global, bytes: &[u8]) -> Result<u8, DerError> {
@@ -105,7 +101,7 @@ fn field(alloc: Global, bytes: &[u8]) -> Result<u8, DerError> {
 
 fn read(alloc: Global, bytes: &[u8]) -> Result<Answer> {
     match field(alloc, bytes) {
-        Ok(number) => Answer::display(alloc, &number),
+        Ok(number) => Ok(Answer::Number(i128::from(number))),
         Err(fault) => refusal(fault),
     }
 }
@@ -137,7 +133,7 @@ fn two(alloc: Global, bytes: &[u8]) -> Result<(u8, u8), DerError> {
 
 fn read_two(alloc: Global, bytes: &[u8]) -> Result<Answer> {
     match two(alloc, bytes) {
-        Ok((number, tagged)) => Ok(Answer::Text(format!(in alloc; "{number} {tagged}")?)),
+        Ok((number, tagged)) => { Answer::numbers(alloc, &[u64::from(number), u64::from(tagged)]) }
         Err(fault) => refusal(fault),
     }
 }

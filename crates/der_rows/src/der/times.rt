@@ -7,13 +7,12 @@
 //     der_time.date BYTES               the date of the UTCTime that the bytes are
 //     der_time.civil BYTES              its day in the calendar, or the refusal
 use crate::der::values::written;
-use anyhow::{Context, Result, bail};
+use anyhow::{Result, bail};
 use picky_asn1_date::{Date, DateError, GeneralizedTime, UTCTime};
 use picky_asn1_wrapper::{GeneralizedTimeAsn1, UtcTimeAsn1};
 use picky_der::from_bytes;
 use rows::{Answer, Words};
 use std::alloc::Global;
-use std::str::FromStr;
 
 pub fn answer(alloc: Global, call: &str, words: &mut Words<'_>) -> Result<Answer> {
     match call {
@@ -26,24 +25,13 @@ pub fn answer(alloc: Global, call: &str, words: &mut Words<'_>) -> Result<Answer
     }
 }
 
-fn word<T: FromStr + Drop>(words: &mut Words<'_>) -> Result<T>
-where
-    T::Err: Drop,
-{
-    words
-        .next()
-        .parse::<T>()
-        .ok()
-        .context("a number is missing")
-}
-
 fn date<TR>(words: &mut Words<'_>) -> Result<Date<TR>> {
-    let year = word(words)?;
-    let month = word(words)?;
-    let day = word(words)?;
-    let hour = word(words)?;
-    let minute = word(words)?;
-    let second = word(words)?;
+    let year = words.parsed()?;
+    let month = words.parsed()?;
+    let day = words.parsed()?;
+    let hour = words.parsed()?;
+    let minute = words.parsed()?;
+    let second = words.parsed()?;
     match Date::new(year, month, day, hour, minute, second) {
         Some(date) => Ok(date),
         None => bail!("no such date"),
@@ -62,9 +50,17 @@ fn changed(alloc: Global, date: UTCTime) -> Result<Answer> {
 
 fn numbers(alloc: Global, bytes: &[u8]) -> Result<Answer> {
     let date = UTCTime::from(from_bytes::<UtcTimeAsn1>(alloc, bytes)?);
-    let day = format!(in alloc; "{} {} {}", date.year(), date.month(), date.day())?;
-    let time = format!(in alloc; "{} {} {}", date.hour(), date.minute(), date.second())?;
-    Ok(Answer::Text(format!(in alloc; "{day} {time}")?))
+    Answer::numbers(
+        alloc,
+        &[
+            u64::from(date.year()),
+            u64::from(date.month()),
+            u64::from(date.day()),
+            u64::from(date.hour()),
+            u64::from(date.minute()),
+            u64::from(date.second()),
+        ],
+    )
 }
 
 fn civil(alloc: Global, bytes: &[u8]) -> Result<Answer> {
@@ -72,6 +68,6 @@ fn civil(alloc: Global, bytes: &[u8]) -> Result<Answer> {
     match time.to_civil() {
         Ok(civil) => Answer::display(alloc, &civil),
         Err(DateError::NoSuchDate) => Ok(Answer::Word("NoSuchDate")),
-        Err(fault) => bail!("{fault}"),
+        Err(_) => bail!("another refusal"),
     }
 }

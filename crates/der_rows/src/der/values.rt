@@ -128,7 +128,8 @@ fn read<T: DerRead + DerWrite + CopyIn + PartialEq + Drop>(
     }
 }
 
-fn comes_back<T: DerRead + DerWrite + Drop>(alloc: Global, bytes: &[u8]) -> Result<Answer> {
+/// Whether the bytes are read as a value that is written as them.
+pub fn comes_back<T: DerRead + DerWrite + Drop>(alloc: Global, bytes: &[u8]) -> Result<Answer> {
     match from_bytes::<T>(alloc, bytes) {
         Ok(value) => Ok(Answer::Truth(to_vec(alloc, &value)?.as_slice() == bytes)),
         Err(DerError::OutOfMemory) => bail!("out of memory"),

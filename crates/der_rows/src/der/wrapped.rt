@@ -30,18 +30,10 @@ pub fn list(alloc: Global, call: &str, words: &mut Words<'_>) -> Result<Answer> 
         "sequence" => written(alloc, &numbers(alloc, words)?),
         "bits" => written(alloc, &BitStringAsn1Container(numbers(alloc, words)?)),
         "octets" => written(alloc, &OctetStringAsn1Container(numbers(alloc, words)?)),
-        "push" => push(alloc, number(words)?, words),
+        "push" => push(alloc, words.parsed()?, words),
         "push_to_set" => push_to_set(alloc, words.truth()?, words),
         _ => bail!("no such call"),
     }
-}
-
-fn number(words: &mut Words<'_>) -> Result<u32> {
-    words
-        .next()
-        .parse::<u32>()
-        .ok()
-        .context("a number is missing")
 }
 
 fn numbers(alloc: Global, words: &mut Words<'_>) -> Result<Asn1SequenceOf<u32>> {
@@ -69,7 +61,7 @@ pub fn tagged(alloc: Global, call: &str, words: &mut Words<'_>) -> Result<Answer
     match call {
         "header" => written(alloc, &HeaderOnly::<ExplicitContextTag0<u8>>::new()),
         "implicit_octets" => implicit_octets(alloc, words.bytes(alloc)?),
-        _ => changed(alloc, call, number(words)?, number(words)?),
+        _ => changed(alloc, call, words.parsed()?, words.parsed()?),
     }
 }
 
