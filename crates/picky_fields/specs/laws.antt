@@ -4,6 +4,8 @@ pub mod Depths
 pub mod Either
 pub mod Fields
 pub mod Identifiers
+pub mod Names
 pub mod Optional
 pub mod Plain
+pub mod SeenAgain
 pub mod Writing

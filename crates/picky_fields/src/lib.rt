@@ -15,5 +15,5 @@ pub use explicit::{
     read_explicit, read_optional_explicit, write_explicit, write_optional_explicit,
 };
 pub use null::read_null_or_none;
-pub use octets::{read_octets, write_octets};
+pub use octets::{read_explicit_octets, read_octets, write_explicit_octets, write_octets};
 pub use optional::{read_last, read_optional, write_optional};

@@ -1,0 +1,12 @@
+pub mod Aes
+pub mod Counts
+pub mod Digest
+pub mod Encryption
+pub mod Hashes
+pub mod Identifiers
+pub mod Kdf
+pub mod Pbes1
+pub mod Pbkdf2
+pub mod Prf
+pub mod Salt
+pub mod laws

@@ -1,0 +1,3 @@
+-- What the laws of algorithms rest on.
+pub mod Identifiers
+pub mod Pbkdf2

@@ -1,0 +1,143 @@
+// Hash functions in containers.
+ghost use Rattle.std.specs.Prelude.{◌≡◌, IfOk};
+ghost use Rattle.picky_der.specs.Reading.{Reads};
+ghost use Rattle.picky_fields.specs.Fields.{seen_at};
+ghost use Rattle.picky_x509_algorithms.specs.declared.digest.Pkcs12DigestAlgorithm.{Pkcs12DigestAlgorithm as Digest};
+ghost use Rattle.picky_x509_algorithms.specs.Hashes.{digest_cases};
+ghost use Rattle.picky_x509_algorithms.specs.Digest.{digest_by, digest_of, digest, digest_lawful};
+
+use crate::hash_name::HashName;
+use crate::writing::write_with_null;
+use picky_asn1_oid::ObjectIdentifier;
+use picky_asn1_tag::{Asn1Value, CopyIn, Tag};
+use picky_der::{DerError, DerForm, DerRead, DerReader, DerWrite};
+use picky_fields::{AlgorithmIdentifier, read_last, read_null_or_none};
+use std::alloc::{AllocError, Global};
+
+/// A hash function, told by its identifier (RFC 8017 appendix B.1).
+///
+/// A known identifier stands with NULL or absent parameters, and is written with NULL.
+#[derive(Debug, Drop)]
+pub enum Pkcs12DigestAlgorithm {
+    /// SHA-1.
+    Sha1,
+    /// SHA-224.
+    Sha224,
+    /// SHA-256.
+    Sha256,
+    /// SHA-384.
+    Sha384,
+    /// SHA-512.
+    Sha512,
+    /// Any other algorithm.
+    Unknown(AlgorithmIdentifier),
+}
+
+impl Pkcs12DigestAlgorithm {
+    /// A copy, in memory of its own.
+    pub fn clone(&self, alloc: Global) -> Result<Pkcs12DigestAlgorithm, AllocError>
+        ensures { IfOk result (λ copy. copy ≡ self.now) }
+    {
+        match self {
+            Pkcs12DigestAlgorithm::Sha1 => Ok(Pkcs12DigestAlgorithm::Sha1),
+            Pkcs12DigestAlgorithm::Sha224 => Ok(Pkcs12DigestAlgorithm::Sha224),
+            Pkcs12DigestAlgorithm::Sha256 => Ok(Pkcs12DigestAlgorithm::Sha256),
+            Pkcs12DigestAlgorithm::Sha384 => Ok(Pkcs12DigestAlgorithm::Sha384),
+            Pkcs12DigestAlgorithm::Sha512 => Ok(Pkcs12DigestAlgorithm::Sha512),
+            Pkcs12DigestAlgorithm::Unknown(algorithm) => {
+                Ok(Pkcs12DigestAlgorithm::Unknown(algorithm.clone(alloc)?))
+            }
+        }
+    }
+}
+
+impl Asn1Value for Pkcs12DigestAlgorithm {
+    ghost Meaning = { Digest };
+
+    ghost meaning = { λ d. d };
+}
+
+impl CopyIn for Pkcs12DigestAlgorithm {
+    fn copy_in(&self, alloc: Global) -> Result<Pkcs12DigestAlgorithm, AllocError> {
+        self.clone(alloc)
+    }
+}
+
+/// In form are the known ones, and others whose identifier is none of theirs.
+impl DerForm for Pkcs12DigestAlgorithm {
+    ghost Abstract = { Digest };
+
+    ghost stands_for = { λ d. d };
+
+    ghost form = { digest };
+
+    ghost same_value = { λ _ _ e. e };
+}
+
+fn digest_by(hash: HashName) -> Pkcs12DigestAlgorithm
+    ensures { result ≡ digest_by hash }
+{
+    match hash {
+        HashName::Sha1 => Pkcs12DigestAlgorithm::Sha1,
+        HashName::Sha224 => Pkcs12DigestAlgorithm::Sha224,
+        HashName::Sha256 => Pkcs12DigestAlgorithm::Sha256,
+        HashName::Sha384 => Pkcs12DigestAlgorithm::Sha384,
+        HashName::Sha512 => Pkcs12DigestAlgorithm::Sha512,
+    }
+}
+
+#[tactic(auto, unfolding(crate::specs::Hashes::digest_cases, crate::specs::Identifiers::other_algorithm))]
+fn read_parameters(
+    alloc: Global,
+    oid: ObjectIdentifier,
+    reader: &mut DerReader<'_>,
+) -> Result<Pkcs12DigestAlgorithm, DerError>
+    ensures { Reads (λ d. d) (seen_at digest_of (digest_cases.reading oid)) reader.old result reader.new }
+{
+    if let Some(hash) = HashName::of_digest(&oid) {
+        read_null_or_none(alloc, reader)?;
+        return Ok(digest_by(hash));
+    }
+    let parameters = read_last(alloc, reader)?;
+    Ok(Pkcs12DigestAlgorithm::Unknown(AlgorithmIdentifier { oid, parameters }))
+}
+
+impl DerRead for Pkcs12DigestAlgorithm {
+    #[tactic(auto, unfolding(crate::specs::Digest::digest))]
+    fn begins_with(tag: Tag) -> bool {
+        tag == Tag::SEQUENCE
+    }
+
+    #[tactic(auto, unfolding(crate::specs::Digest::digest, picky_fields::specs::Fields::enclosed_at, picky_fields::specs::Fields::run_at))]
+    fn read_der(
+        alloc: Global,
+        reader: &mut DerReader<'_>,
+    ) -> Result<Pkcs12DigestAlgorithm, DerError> {
+        let mut ahead = reader.fork();
+        let mut fields = ahead.nested(Tag::SEQUENCE)?;
+        let oid = ObjectIdentifier::read_der(alloc, &mut fields)?;
+        let digest = read_parameters(alloc, oid, &mut fields)?;
+        fields.end()?;
+        *reader = ahead;
+        Ok(digest)
+    }
+
+    ghost readable = { digest_lawful.readable };
+}
+
+impl DerWrite for Pkcs12DigestAlgorithm {
+    #[tactic(auto, unfolding(crate::specs::Digest::digest, crate::specs::Hashes::digest_cases, crate::specs::Identifiers::other_algorithm, picky_fields::specs::Algorithm::algorithm))]
+    fn write_der(&self, alloc: Global, out: &mut Vec<u8>) -> Result<(), DerError> {
+        let hash = match self {
+            Pkcs12DigestAlgorithm::Sha1 => HashName::Sha1,
+            Pkcs12DigestAlgorithm::Sha224 => HashName::Sha224,
+            Pkcs12DigestAlgorithm::Sha256 => HashName::Sha256,
+            Pkcs12DigestAlgorithm::Sha384 => HashName::Sha384,
+            Pkcs12DigestAlgorithm::Sha512 => HashName::Sha512,
+            Pkcs12DigestAlgorithm::Unknown(algorithm) => return algorithm.write_der(alloc, out),
+        };
+        write_with_null(alloc, hash.digest_identifier(), out)
+    }
+
+    ghost writable = { digest_lawful.writable };
+}

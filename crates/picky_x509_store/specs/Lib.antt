@@ -1,0 +1,3 @@
+pub mod Encrypted
+pub mod Mac
+pub mod Pfx
