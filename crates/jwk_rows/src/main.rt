@@ -1,0 +1,24 @@
+//! Rows over JSON Web Keys and their sets: lines that name a call and its arguments, answered by what the call gives.
+#![tactic(auto)]
+
+mod jwk;
+
+use anyhow::{Result, bail};
+use rows::{Answer, Calls, Words, answer_rows};
+use std::alloc::Global;
+use std::process::ExitCode;
+
+struct JwkCalls;
+
+impl Calls for JwkCalls {
+    fn answer(alloc: Global, notion: &str, call: &str, words: &mut Words<'_>) -> Result<Answer> {
+        match notion {
+            "key_in_json" => jwk::answer(alloc, call, words),
+            _ => bail!("no such notion"),
+        }
+    }
+}
+
+fn main(rt: HostRuntime) -> Result<ExitCode> {
+    answer_rows::<JwkCalls>(&rt)
+}

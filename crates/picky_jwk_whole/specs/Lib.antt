@@ -1,0 +1,5 @@
+pub mod Jwk
+pub mod Views
+pub mod Trees
+pub mod Refusals
+pub mod laws

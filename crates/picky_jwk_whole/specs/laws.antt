@@ -1,0 +1,4 @@
+pub mod Once
+pub mod Written
+pub mod Shallow
+pub mod Texts

@@ -1,0 +1,5 @@
+pub mod Members
+pub mod Reading
+pub mod Names
+pub mod Writing
+pub mod laws

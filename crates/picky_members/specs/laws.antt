@@ -1,0 +1,7 @@
+pub mod Once
+pub mod Stops
+pub mod Lists
+pub mod Pairs
+pub mod Written
+pub mod Shallow
+pub mod Texts
