@@ -1,7 +1,5 @@
 pub mod Family
 pub mod Signatures
-pub mod Sizes
+pub mod SignatureForms
+pub mod Exchange
 pub mod Words
-pub mod Spki
-pub mod Records
-pub mod RecordLaws

@@ -3,6 +3,8 @@ ghost use Rattle.std.specs.Prelude.{◌≡◌};
 ghost use Rattle.picky_key.specs.Family.{is_of_family as is_of};
 ghost use Rattle.picky_key.specs.Words.{algorithm_word};
 
+use picky_key_der::{EdAlgorithm, NamedEcCurve, PublicKey, PublicKeyKind};
+
 /// A hash of a signature algorithm.
 #[allow(non_camel_case_types)]
 #[derive(Clone, Copy, Debug, PartialEq, Eq, Hash)]
@@ -24,25 +26,6 @@ pub enum SignatureAlgorithm {
     RsaPkcs1v15(HashAlgorithm),
     Ecdsa(HashAlgorithm),
     Ed25519,
-}
-
-/// An algorithm of an Edwards curve key (RFC 8032).
-#[derive(Clone, Copy, Debug, PartialEq, Eq, Hash)]
-pub enum EdAlgorithm {
-    Ed25519,
-}
-
-/// A family of keys.
-#[derive(Clone, Copy, Debug, PartialEq, Eq, Hash)]
-pub enum KeyFamily {
-    /// RSA keys (RFC 8017).
-    Rsa,
-    /// Keys on a curve over a prime field (SEC 1).
-    Ec,
-    /// Edwards keys that sign (RFC 8032).
-    Ed25519,
-    /// Keys of the agreement X25519 (RFC 7748), which has no signatures.
-    X25519,
 }
 
 impl SignatureAlgorithm {
@@ -71,16 +54,29 @@ impl SignatureAlgorithm {
         }
     }
 
-    /// Whether keys of the family sign with the algorithm: RSASSA-PKCS1-v1_5 of any hash is of RSA, ECDSA of
-    /// any hash of the curves, Ed25519 of its own; nothing is of X25519.
-    pub fn is_of_family(self, family: KeyFamily) -> bool
-        ensures { result ≡ is_of self family }
+    /// Whether the algorithm is of the key's family: RSASSA-PKCS1-v1_5 of any hash is of RSA keys, ECDSA of any hash
+    /// of keys on a known curve, Ed25519 of its own. Nothing is of an X25519 key or of a key on another curve.
+    pub fn is_of_family(self, key: &PublicKey) -> bool
+        ensures { result ≡ is_of self key.now }
     {
         matches!(
-            (self, family),
-            (SignatureAlgorithm::RsaPkcs1v15(_), KeyFamily::Rsa)
-                | (SignatureAlgorithm::Ecdsa(_), KeyFamily::Ec)
-                | (SignatureAlgorithm::Ed25519, KeyFamily::Ed25519)
+            (self, key.kind()),
+            (
+                SignatureAlgorithm::RsaPkcs1v15(_),
+                PublicKeyKind::Rsa { .. }
+            ) | (
+                SignatureAlgorithm::Ecdsa(_),
+                PublicKeyKind::Ec {
+                    curve: NamedEcCurve::Known(_),
+                    ..
+                }
+            ) | (
+                SignatureAlgorithm::Ed25519,
+                PublicKeyKind::Ed {
+                    algorithm: EdAlgorithm::Ed25519,
+                    ..
+                }
+            )
         )
     }
 }

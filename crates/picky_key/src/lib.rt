@@ -1,17 +1,16 @@
-//! Keys, the provider that judges signatures, and the provider over recorded signatures.
+//! Keys, signature algorithms, and the provider of key operations.
 //!
-//! No key arithmetic is done here: a [`KeyProvider`] is handed in, known by its signature relation.
-//! [`Recorded`] is the provider that answers from the lines of a records document.
+//! No key arithmetic is done here: a [`KeyProvider`] is handed in, known by its seven meanings and their laws.
 #![tactic(auto)]
 
 mod algorithm;
-mod error;
-mod key;
+pub mod laws;
 mod provider;
-mod recorded;
 
-pub use algorithm::{EdAlgorithm, HashAlgorithm, KeyFamily, SignatureAlgorithm};
-pub use error::{KeyError, SignatureError};
-pub use key::PublicKey;
-pub use provider::{KeyProvider, ProviderFault};
-pub use recorded::{RecordFault, Recorded};
+pub use algorithm::{HashAlgorithm, SignatureAlgorithm};
+pub use picky_key_der::{
+    EcCurve, EcdsaSignatureValue, EdAlgorithm, KeyError, KeyFamily, NamedEcCurve, PublicKey,
+    PublicKeyKind, SignatureError,
+};
+pub use picky_key_private::{PrivateKey, PrivateKeyKind};
+pub use provider::{Ephemeral, KeyProvider, ProviderFault, WrapScheme};

@@ -19,6 +19,8 @@ use Rattle.picky_key_der.specs.declared.algorithm.KeyAlgorithm.{KeyAlgorithm}
 use Rattle.picky_key_der.specs.declared.algorithm.KeyAlgorithm.TheVariants as keys
 use Rattle.picky_key_der.specs.declared.error.KeyError.{KeyError}
 use Rattle.picky_key_der.specs.declared.error.KeyError.TheVariants.{UnsupportedAlgorithm, BadSize, BadPoint}
+use Rattle.picky_key_der.specs.declared.kind.PrivateKeyKind.{PrivateKeyKind}
+use Rattle.picky_key_der.specs.declared.kind.PrivateKeyKind.TheVariants as private
 use Rattle.picky_key_der.specs.declared.public.PublicKeyKind.{PublicKeyKind}
 use Rattle.picky_key_der.specs.declared.public.PublicKeyKind.TheVariants.{Rsa, Ec, Ed}
 use Rattle.picky_key_der.specs.Errors.{read}
@@ -61,10 +63,21 @@ abbrev pub is_point_of : NamedEcCurve → List ℕ → Bool
 is_point_of (Known curve) point = is_point (field_size curve) point
 is_point_of (Unsupported oid) point = true
 
+-- a known curve, or an identifier of none of them
+abbrev pub IsNamed : NamedEcCurve → Type 0
+IsNamed (Known curve) = Unit {0}
+IsNamed (Unsupported oid) = curve_of oid ≡ Unsupported oid
+
+-- the curve of a kind, where it has one, is so named
+abbrev pub HasName : PrivateKeyKind → Type 0
+HasName private.Rsa = Unit {0}
+HasName (private.Ec curve) = IsNamed curve
+HasName (private.Ed _) = Unit {0}
+
 -- the point is one of its curve, or there are 32 bytes
 abbrev pub IsKept : PublicKeyKind → Type 0
 IsKept (Rsa _ _) = Unit {0}
-IsKept (Ec curve point) = is_point_of curve point ≡ true
+IsKept (Ec curve point) = IsNamed curve × (is_point_of curve point ≡ true)
 IsKept (Ed _ bytes) = length bytes ≡ 32
 
 -- the family of a key
@@ -81,43 +94,64 @@ abbrev pub parameters_of : Option (List ℕ) → List ℕ
 parameters_of None = []
 parameters_of (Some p) = p
 
-abbrev rsa_key : List ℕ × List ℕ → PublicKeyKind
+-- the parameters are NULL or absent
+unfoldable pub rsa_kind_table : List ℕ → Table PrivateKeyKind KeyError
+rsa_kind_table parameters = do
+  null ← read (whole null_or_none.reading parameters)
+  done private.Rsa
+
+-- the parameters are the identifier of a curve
+unfoldable pub ec_kind_table : List ℕ → Table PrivateKeyKind KeyError
+ec_kind_table parameters = do
+  oid ← read (whole identifier.reading parameters)
+  done (private.Ec (curve_of oid))
+
+-- there are no parameters
+unfoldable pub ed_kind_table : EdAlgorithm → List ℕ → Table PrivateKeyKind KeyError
+ed_kind_table ed parameters = do
+  absent ← read (end_at parameters)
+  done (private.Ed ed)
+
+abbrev pub told_table : KeyAlgorithm → List ℕ → Table PrivateKeyKind KeyError
+told_table keys.Rsa parameters = rsa_kind_table parameters
+told_table keys.Ec parameters = ec_kind_table parameters
+told_table (keys.Ed ed) parameters = ed_kind_table ed parameters
+
+-- what an algorithm and its parameters say of a key
+unfoldable pub kind_table : AlgorithmIdentifier → Table PrivateKeyKind KeyError
+kind_table algorithm = do
+  told ← the (λ a. algorithm_of algorithm.oid ≡ Some a) (UnsupportedAlgorithm algorithm.oid)
+  told_table told (parameters_of algorithm.parameters)
+
+abbrev pub rsa_key : List ℕ × List ℕ → PublicKeyKind
 rsa_key pair = Rsa (record { 0 = pair.0 }) (record { 0 = pair.1 })
 
--- the parameters are NULL or absent, and the bits hold modulus and exponent
-unfoldable pub rsa_table : List ℕ → List ℕ → Table PublicKeyKind KeyError
-rsa_table parameters bits = do
-  null ← read (whole null_or_none.reading parameters)
+-- the bits hold modulus and exponent
+unfoldable pub rsa_held_table : List ℕ → Table PublicKeyKind KeyError
+rsa_held_table bits = do
   pair ← read (whole rsa_public.reading bits)
   done (rsa_key pair)
 
--- the parameters are the identifier of a curve
-unfoldable pub curve_table : List ℕ → Table NamedEcCurve KeyError
-curve_table parameters = do
-  oid ← read (whole identifier.reading parameters)
-  done (curve_of oid)
-
 -- the bits are a point of the curve
-unfoldable pub ec_table : List ℕ → List ℕ → Table PublicKeyKind KeyError
-ec_table parameters bits = do
-  curve ← curve_table parameters
+unfoldable pub point_table : NamedEcCurve → List ℕ → Table PublicKeyKind KeyError
+point_table curve bits = do
   fits ← need (is_point_of curve bits ≡ true) BadPoint
   done (Ec curve bits)
 
--- there are no parameters, and 32 bytes
-unfoldable pub ed_table : EdAlgorithm → List ℕ → List ℕ → Table PublicKeyKind KeyError
-ed_table ed parameters bits = do
-  absent ← read (end_at parameters)
+-- there are 32 bytes
+unfoldable pub ed_held_table : EdAlgorithm → List ℕ → Table PublicKeyKind KeyError
+ed_held_table ed bits = do
   fits ← need (length bits ≡ 32) (BadSize 32 (length bits))
   done (Ed ed bits)
 
-abbrev pub told_table : KeyAlgorithm → List ℕ → List ℕ → Table PublicKeyKind KeyError
-told_table keys.Rsa parameters bits = rsa_table parameters bits
-told_table keys.Ec parameters bits = ec_table parameters bits
-told_table (keys.Ed ed) parameters bits = ed_table ed parameters bits
+-- what the bits of a public key of a kind say
+abbrev pub held_table : PrivateKeyKind → List ℕ → Table PublicKeyKind KeyError
+held_table private.Rsa bits = rsa_held_table bits
+held_table (private.Ec curve) bits = point_table curve bits
+held_table (private.Ed ed) bits = ed_held_table ed bits
 
 unfoldable pub public_table : List ℕ → Table PublicKeyKind KeyError
 public_table bytes = do
   outer ← read (whole information.reading bytes)
-  told ← the (λ a. algorithm_of outer.0.oid ≡ Some a) (UnsupportedAlgorithm outer.0.oid)
-  told_table told (parameters_of outer.0.parameters) outer.1
+  kind ← kind_table outer.0
+  held_table kind outer.1

@@ -1,7 +1,8 @@
 // Algorithms and curves of keys, by their identifiers.
-ghost use Rattle.std.specs.Prelude.{◌≡◌, IfOk};
+ghost use Rattle.std.specs.Prelude.{◌≡◌, ◌↔◌, IsTrue, IfOk};
 ghost use Rattle.picky_key_der.specs.Identifiers.{algorithm_of, curve_of};
-ghost use Rattle.picky_key_der.specs.Public.{field_size};
+ghost use Rattle.picky_key_der.specs.Kinds.{same_known, same_curve, same_edwards};
+ghost use Rattle.picky_key_der.specs.Public.{field_size, IsNamed};
 
 use picky_asn1_oid::ObjectIdentifier;
 use std::alloc::{AllocError, Global};
@@ -28,6 +29,18 @@ impl EcCurve {
             EcCurve::NistP521 => 66,
         }
     }
+
+    // Whether both are one curve.
+    fn same(self, other: EcCurve) -> bool
+        ensures { result ≡ same_known self other }
+    {
+        match (self, other) {
+            (EcCurve::NistP256, EcCurve::NistP256) => true,
+            (EcCurve::NistP384, EcCurve::NistP384) => true,
+            (EcCurve::NistP521, EcCurve::NistP521) => true,
+            _ => false,
+        }
+    }
 }
 
 /// The curve of a key: a known one, or the identifier of another.
@@ -49,6 +62,19 @@ impl NamedEcCurve {
             NamedEcCurve::Unsupported(oid) => Ok(NamedEcCurve::Unsupported(oid.clone(alloc)?)),
         }
     }
+
+    /// Whether both are one curve: two curves that aren't known are one where their identifiers are.
+    #[tactic(auto, using(crate::specs::laws::Kinds::same_curve_decides))]
+    pub fn same(&self, other: &NamedEcCurve) -> bool
+        ensures means { IsTrue result ↔ (self.now ≡ other.now) }
+        ensures value { result ≡ same_curve self.now other.now }
+    {
+        match (self, other) {
+            (NamedEcCurve::Known(curve), NamedEcCurve::Known(other)) => curve.same(*other),
+            (NamedEcCurve::Unsupported(oid), NamedEcCurve::Unsupported(other)) => *oid == *other,
+            _ => false,
+        }
+    }
 }
 
 /// An algorithm of an Edwards curve key.
@@ -58,6 +84,21 @@ pub enum EdAlgorithm {
     Ed25519,
     /// Agreement (RFC 7748).
     X25519,
+}
+
+impl EdAlgorithm {
+    /// Whether both are one algorithm.
+    #[tactic(auto, using(crate::specs::laws::Kinds::same_edwards_decides))]
+    pub fn same(self, other: EdAlgorithm) -> bool
+        ensures means { IsTrue result ↔ (self ≡ other) }
+        ensures value { result ≡ same_edwards self other }
+    {
+        match (self, other) {
+            (EdAlgorithm::Ed25519, EdAlgorithm::Ed25519) => true,
+            (EdAlgorithm::X25519, EdAlgorithm::X25519) => true,
+            _ => false,
+        }
+    }
 }
 
 /// A family of keys.
@@ -123,7 +164,8 @@ pub fn algorithm_of(oid: &ObjectIdentifier) -> Option<KeyAlgorithm>
 
 // The curve with this identifier; any other is kept.
 pub fn curve_of(oid: ObjectIdentifier) -> NamedEcCurve
-    ensures { result ≡ curve_of oid }
+    ensures value { result ≡ curve_of oid }
+    ensures named { IsNamed result }
 {
     if oid.contents() == SECP256R1.as_slice() {
         return NamedEcCurve::Known(EcCurve::NistP256);

@@ -1,8 +1,9 @@
 // ECDSA signatures: the pair in DER, and its form of fixed size.
 #![tactic(auto, unfolding(crate::specs::Ecdsa::ecdsa_pair, picky_fields::specs::Fields::enclosed_at, picky_fields::specs::Fields::run_at))]
 
-ghost use Rattle.std.specs.Prelude.{◌≡◌, ◌≤◌, ◌<◌, ◌^◌, length, IfOk};
-ghost use Rattle.picky_asn1_bits.specs.Integer.{unsigned_spelling};
+ghost use Rattle.std.specs.Prelude.{◌≡◌, ◌≤◌, ◌<◌, ◌^◌, ◌↔◌, length, IfOk, IsTrue};
+ghost use Rattle.picky_asn1_bits.specs.Integer.{IsShortest, unsigned_spelling};
+ghost use Rattle.picky_der.specs.Strings.{is_shortest};
 ghost use Rattle.picky_contract.specs.Refusals.{Meets, OkOrMemory};
 ghost use Rattle.picky_key_der.specs.declared.ecdsa.EcdsaSignatureValue.{EcdsaSignatureValue as Pair};
 ghost use Rattle.picky_key_der.specs.Ecdsa.{PairValue, pair_value, ecdsa_pair_lawful, ecdsa_pair, padded, Fits, IsNumber, ArePadded, AreHalves, signature_fault, halves_table, number_table, fixed_table, fixed_of};
@@ -27,6 +28,31 @@ fn number(alloc: Global, bytes: &[u8]) -> Result<IntegerAsn1, AllocError>
     ensures { IfOk result (λ i. i.0 ≡ unsigned_spelling bytes.now) }
 {
     IntegerAsn1::from_bytes_be_unsigned(alloc, Vec::from_slice(alloc, bytes)?)
+}
+
+// Whether there is a byte, and the first nine bits aren't all alike.
+#[tactic(auto, using(crate::specs::laws::Ecdsa::shortest_to, crate::specs::laws::Ecdsa::shortest_back))]
+fn is_shortest(octets: &[u8]) -> bool
+    ensures value { result ≡ is_shortest octets.now }
+    ensures means { IsTrue result ↔ IsShortest octets.now }
+{
+    match octets {
+        [] => false,
+        [_] => true,
+        [first, second, ..] => {
+            if *first == 0 {
+                return 128 <= *second;
+            }
+            *first != 255 || *second < 128
+        }
+    }
+}
+
+// Whether the number is at least zero, and in its shortest spelling.
+fn is_number(number: &IntegerAsn1) -> bool
+    ensures { IsTrue result ↔ IsNumber number.now.0 }
+{
+    number.is_positive() && is_shortest(number.0.as_slice())
 }
 
 // The bytes with as many 00 in front as make up the size.
@@ -100,9 +126,16 @@ impl EcdsaSignatureValue {
         })
     }
 
+    /// Whether both numbers are at least zero and in their shortest spelling, as `to_fixed` asks; without taking memory.
+    pub fn is_proper(&self) -> bool
+        ensures { IsTrue result ↔ (IsNumber self.now.r.0 × IsNumber self.now.s.0) }
+    {
+        is_number(&self.r) && is_number(&self.s)
+    }
+
     /// The bytes of r and then those of s, big-endian, each with as many 00 in front as make up the size.
     ///
-    /// Both numbers are at least zero and in their shortest spelling. `Ec` exactly where r, or else s, has more bytes than
+    /// Both numbers are at least zero and in their shortest spelling (`is_proper`). `Ec` exactly where r, or else s, has more bytes than
     /// the size.
     pub fn to_fixed(&self, alloc: Global, size: usize) -> Result<Vec<u8>, SignatureError>
         requires r { IsNumber self.now.r.0 }

@@ -5,7 +5,7 @@ ghost use Rattle.std.specs.Prelude.{◌≡◌, List, ℕ};
 ghost use Rattle.picky_der.specs.Reading.{Reads, Answers, whole_bytes};
 ghost use Rattle.picky_der.specs.Form.{Writes};
 ghost use Rattle.picky_key_der.specs.Public.{InformationValue, whole_bits, information, rsa_public};
-ghost use Rattle.picky_key_der.specs.laws.Public.{information_lawful, rsa_public_lawful};
+ghost use Rattle.picky_key_der.specs.laws.Public.{whole_bits_lawful, information_lawful, rsa_public_lawful};
 
 use picky_asn1_bits::IntegerAsn1;
 use picky_asn1_tag::{Asn1Value, Tag};
@@ -26,7 +26,7 @@ fn without_count(contents: &[u8]) -> Result<&[u8], DerError>
 
 // The bytes of the BIT STRING that stands next, which has no unused bits.
 #[tactic(auto, unfolding(crate::specs::Public::whole_bits, picky_der::specs::Primitive::primitive_at))]
-pub fn read_whole_bits(alloc: Global, reader: &mut DerReader<'_>) -> Result<Vec<u8>, DerError>
+fn read_whole_bits(alloc: Global, reader: &mut DerReader<'_>) -> Result<Vec<u8>, DerError>
     ensures { Reads (λ v. v.items) whole_bits.reading reader.old result reader.new }
 {
     let mut ahead = reader.fork();
@@ -34,6 +34,38 @@ pub fn read_whole_bits(alloc: Global, reader: &mut DerReader<'_>) -> Result<Vec<
     let bits = Vec::from_slice(alloc, bytes)?;
     *reader = ahead;
     Ok(bits)
+}
+
+/// The bytes of a BIT STRING that has no unused bits.
+#[derive(Debug, Drop)]
+pub struct WholeBits(pub Bytes);
+
+impl Asn1Value for WholeBits {
+    ghost Meaning = { List ℕ };
+
+    ghost meaning = { λ b. b.0 };
+}
+
+impl DerForm for WholeBits {
+    ghost Abstract = { List ℕ };
+
+    ghost stands_for = { λ b. b.0 };
+
+    ghost form = { whole_bits };
+
+    ghost same_value = { λ _ _ e. e };
+}
+
+impl DerRead for WholeBits {
+    fn begins_with(tag: Tag) -> bool {
+        tag == Tag::BIT_STRING
+    }
+
+    fn read_der(alloc: Global, reader: &mut DerReader<'_>) -> Result<WholeBits, DerError> {
+        Ok(WholeBits(Bytes::new(read_whole_bits(alloc, reader)?)))
+    }
+
+    ghost readable = { whole_bits_lawful.readable };
 }
 
 // The algorithm and the bits of a public key (RFC 5280 section 4.1.2.7).

@@ -1,27 +1,22 @@
 // Public keys.
-ghost use Rattle.std.specs.Prelude.{◌≡◌, ◌≢◌, ◌≤◌, ◌++◌, ◌∷◌, true, length, Ok, Err, IfOk};
+ghost use Rattle.std.specs.Prelude.{◌≡◌, ◌≢◌, ◌≤◌, ◌↔◌, ◌++◌, ◌∷◌, true, length, Ok, Err, IfOk, IsTrue};
 ghost use Rattle.picky_contract.specs.Refusals.{Meets, OkOrMemory};
-ghost use Rattle.picky_der.specs.Form.{whole};
-ghost use Rattle.picky_der.specs.Reading.{Gives, end_at};
-ghost use Rattle.picky_fields.specs.Fields.{null_or_none};
-ghost use Rattle.picky_key_der.specs.Errors.{key_fault, read};
+ghost use Rattle.picky_key_der.specs.Errors.{key_fault};
+ghost use Rattle.picky_key_der.specs.Grammar.{IsPublicKey};
+ghost use Rattle.picky_key_der.specs.declared.public.PublicKeyKind.{PublicKeyKind as Kind};
 ghost use Rattle.picky_key_der.specs.declared.error.KeyError.TheVariants.{BadSize};
 ghost use Rattle.picky_key_der.specs.declared.public.PublicKeyKind.TheVariants.{Rsa, Ed};
-ghost use Rattle.picky_key_der.specs.Identifiers.{algorithm_of};
 ghost use Rattle.picky_der.specs.Length.{without_zeros};
+ghost use Rattle.picky_key_der.specs.Kinds.{same_public};
 ghost use Rattle.picky_key_der.specs.Writing.{coordinate_table, components_table, public_der_table, public_der_of, HasNumbers, FitsField, of_coordinates};
-ghost use Rattle.picky_key_der.specs.Public.{is_point, is_point_of, IsKept, parameters_of, rsa_table, curve_table, ec_table, ed_table, told_table, public_table, family_of};
+ghost use Rattle.picky_key_der.specs.Public.{is_point, IsKept, public_table, family_of};
 
-use crate::algorithm::{KeyAlgorithm, algorithm_of, curve_of};
 use crate::ecdsa::padded;
-use crate::information::{RsaPublicKey, SubjectPublicKeyInfo};
+use crate::reading::{ED_SIZE, read_public};
 use crate::writing::public_der;
 use crate::{EcCurve, EdAlgorithm, KeyError, KeyFamily, NamedEcCurve};
 use picky_asn1_bits::IntegerAsn1;
-use picky_asn1_oid::ObjectIdentifier;
 use picky_contract::Bytes;
-use picky_der::{Asn1RawDer, DerError, DerRead, DerReader, from_bytes};
-use picky_fields::read_null_or_none;
 use std::alloc::{AllocError, Global};
 use std::marker::Model;
 
@@ -52,6 +47,39 @@ pub enum PublicKeyKind {
 }
 
 impl PublicKeyKind {
+    /// Whether both are one key, by contents.
+    fn same(&self, other: &PublicKeyKind) -> bool
+        ensures { result ≡ same_public self.now other.now }
+    {
+        match (self, other) {
+            (
+                PublicKeyKind::Rsa {
+                    modulus,
+                    public_exponent,
+                },
+                PublicKeyKind::Rsa {
+                    modulus: other,
+                    public_exponent: exponent,
+                },
+            ) => modulus.0.same(&other.0) && public_exponent.0.same(&exponent.0),
+            (
+                PublicKeyKind::Ec { curve, point },
+                PublicKeyKind::Ec {
+                    curve: other,
+                    point: at,
+                },
+            ) => curve.same(other) && point.same(at),
+            (
+                PublicKeyKind::Ed { algorithm, bytes },
+                PublicKeyKind::Ed {
+                    algorithm: other,
+                    bytes: at,
+                },
+            ) => algorithm.same(*other) && bytes.same(at),
+            _ => false,
+        }
+    }
+
     /// A copy, in memory of its own.
     pub fn clone(&self, alloc: Global) -> Result<PublicKeyKind, AllocError>
         ensures { IfOk result (λ copy. copy ≡ self.now) }
@@ -95,152 +123,6 @@ impl Model for PublicKey {
     ghost invariant = { λ k. IsKept k.kind };
 
     ghost inverse = { λ kind. record { kind = kind } };
-}
-
-// The one value that all the bytes spell.
-fn read_all<T: DerRead + Drop>(alloc: Global, bytes: &[u8]) -> Result<T, KeyError>
-    ensures { Meets T.stands_for key_fault result (read (whole T.form.reading bytes.now)) }
-{
-    match from_bytes(alloc, bytes) {
-        Ok(value) => Ok(value),
-        Err(DerError::OutOfMemory) => Err(KeyError::OutOfMemory),
-        Err(error) => Err(KeyError::Der(error)),
-    }
-}
-
-#[tactic(auto, unfolding(picky_der::specs::Form::whole))]
-fn null_in(alloc: Global, parameters: &[u8]) -> Result<(), DerError>
-    ensures { Gives (λ x. x) result (whole null_or_none.reading parameters.now) }
-{
-    let mut reader = DerReader::new(parameters);
-    read_null_or_none(alloc, &mut reader)?;
-    reader.end()
-}
-
-// The parameters are NULL, or there are none.
-fn null_parameters(alloc: Global, parameters: &[u8]) -> Result<(), KeyError>
-    ensures { Meets (λ x. x) key_fault result (read (whole null_or_none.reading parameters.now)) }
-{
-    match null_in(alloc, parameters) {
-        Ok(()) => Ok(()),
-        Err(DerError::OutOfMemory) => Err(KeyError::OutOfMemory),
-        Err(error) => Err(KeyError::Der(error)),
-    }
-}
-
-// There are no parameters.
-#[tactic(auto, unfolding(picky_der::specs::Reading::end_at))]
-fn no_parameters(parameters: &[u8]) -> Result<(), KeyError>
-    ensures { Meets (λ x. x) key_fault result (read (end_at parameters.now)) }
-{
-    if parameters.is_empty() {
-        Ok(())
-    } else {
-        Err(KeyError::Der(DerError::TrailingBytes))
-    }
-}
-
-// The bytes of the parameters, none where there are none.
-fn parameters_of(parameters: &Option<Asn1RawDer>) -> &[u8]
-    ensures { result.now ≡ parameters_of parameters.now }
-{
-    match parameters {
-        Some(parameters) => parameters.as_bytes(),
-        None => &[],
-    }
-}
-
-// Whether this is 04 and two, or 02 or 03 and one, field sizes.
-fn is_point(field: usize, point: &[u8]) -> bool
-    requires { field ≤ 66 }
-    ensures { result ≡ is_point field point.now }
-{
-    match point {
-        [] => false,
-        [first, rest @ ..] => {
-            (*first == 4 && rest.len() == 2 * field)
-                || ((*first == 2 || *first == 3) && rest.len() == field)
-        }
-    }
-}
-
-// The same of a known curve; any bytes of another.
-fn is_point_of(curve: &NamedEcCurve, point: &[u8]) -> bool
-    ensures { result ≡ is_point_of curve.now point.now }
-{
-    match curve {
-        NamedEcCurve::Known(curve) => is_point(curve.field_bytes_size(), point),
-        NamedEcCurve::Unsupported(_) => true,
-    }
-}
-
-#[tactic(auto, unfolding(crate::specs::Public::rsa_table))]
-fn rsa_key(alloc: Global, parameters: &[u8], bits: &[u8]) -> Result<PublicKey, KeyError>
-    ensures { Meets (λ k. k) key_fault result (rsa_table parameters.now bits.now) }
-{
-    null_parameters(alloc, parameters)?;
-    let key: RsaPublicKey = read_all(alloc, bits)?;
-    let kind = PublicKeyKind::Rsa {
-        modulus: key.modulus,
-        public_exponent: key.public_exponent,
-    };
-    Ok(PublicKey { kind })
-}
-
-#[tactic(auto, unfolding(crate::specs::Public::curve_table))]
-fn curve_in(alloc: Global, parameters: &[u8]) -> Result<NamedEcCurve, KeyError>
-    ensures { Meets (λ c. c) key_fault result (curve_table parameters.now) }
-{
-    let oid: ObjectIdentifier = read_all(alloc, parameters)?;
-    Ok(curve_of(oid))
-}
-
-#[tactic(auto, unfolding(crate::specs::Public::ec_table))]
-fn ec_key(alloc: Global, parameters: &[u8], bits: Bytes) -> Result<PublicKey, KeyError>
-    ensures { Meets (λ k. k) key_fault result (ec_table parameters.now bits) }
-{
-    let curve = curve_in(alloc, parameters)?;
-    if !is_point_of(&curve, bits.as_slice()) {
-        return Err(KeyError::BadPoint);
-    }
-    let kind = PublicKeyKind::Ec { curve, point: bits };
-    Ok(PublicKey { kind })
-}
-
-// The size of an Edwards public key in bytes (RFC 8032 section 5.1.5; RFC 7748 section 6.1).
-const ED_SIZE: usize = 32;
-
-#[tactic(auto, unfolding(crate::specs::Public::ed_table))]
-fn ed_key(algorithm: EdAlgorithm, parameters: &[u8], bits: Bytes) -> Result<PublicKey, KeyError>
-    ensures { Meets (λ k. k) key_fault result (ed_table algorithm parameters.now bits) }
-{
-    no_parameters(parameters)?;
-    if bits.len() != ED_SIZE {
-        return Err(KeyError::BadSize {
-            expected: ED_SIZE,
-            got: bits.len(),
-        });
-    }
-    let kind = PublicKeyKind::Ed {
-        algorithm,
-        bytes: bits,
-    };
-    Ok(PublicKey { kind })
-}
-
-fn told_key(
-    alloc: Global,
-    algorithm: KeyAlgorithm,
-    parameters: &[u8],
-    bits: Bytes,
-) -> Result<PublicKey, KeyError>
-    ensures { Meets (λ k. k) key_fault result (told_table algorithm parameters.now bits) }
-{
-    match algorithm {
-        KeyAlgorithm::Rsa => rsa_key(alloc, parameters, bits.as_slice()),
-        KeyAlgorithm::Ec => ec_key(alloc, parameters, bits),
-        KeyAlgorithm::Ed(algorithm) => ed_key(algorithm, parameters, bits),
-    }
 }
 
 // The bytes without the 00 in front.
@@ -318,15 +200,12 @@ impl PublicKey {
     /// The first of: `Der` where the outer value isn't one; `UnsupportedAlgorithm`; `Der` where the parameters, and then
     /// what the bits hold, aren't of the algorithm; `BadSize` where an Edwards key hasn't 32 bytes; `BadPoint` where the
     /// point of a known curve isn't 04 and two, or 02 or 03 and one, sizes of its field.
-    #[tactic(auto, unfolding(crate::specs::Public::public_table))]
     pub fn from_der(alloc: Global, bytes: &[u8]) -> Result<PublicKey, KeyError>
+        ensures found { IfOk result (λ k. IsPublicKey bytes.now k) }
+        ensures every { (key : Kind) → IsPublicKey bytes.now key → OkOrMemory (λ k. k) key_fault result key }
         ensures first { Meets (λ k. k) key_fault result (public_table bytes.now) }
     {
-        let SubjectPublicKeyInfo { algorithm, bits } = read_all(alloc, bytes)?;
-        let Some(told) = algorithm_of(&algorithm.oid) else {
-            return Err(KeyError::UnsupportedAlgorithm { oid: algorithm.oid });
-        };
-        told_key(alloc, told, parameters_of(&algorithm.parameters), bits)
+        read_public(alloc, bytes)
     }
 
     /// The RSA key of these numbers, without taking memory.
@@ -407,6 +286,23 @@ impl PublicKey {
                 ..
             } => KeyFamily::X25519,
         }
+    }
+
+    /// The key that these parts make, which fit each other; without taking memory.
+    pub fn from_kind(kind: PublicKeyKind) -> PublicKey
+        requires { IsKept kind }
+        ensures { result ≡ kind }
+    {
+        PublicKey { kind }
+    }
+
+    /// Whether both are one key, by contents.
+    #[tactic(auto, using(crate::specs::laws::Kinds::same_public_decides))]
+    pub fn same(&self, other: &PublicKey) -> bool
+        ensures means { IsTrue result ↔ (self.now ≡ other.now) }
+        ensures value { result ≡ same_public self.now other.now }
+    {
+        self.kind.same(&other.kind)
     }
 
     /// A copy, in memory of its own.

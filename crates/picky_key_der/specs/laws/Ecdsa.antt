@@ -1,18 +1,28 @@
 -- Pairs in a fixed size, and back.
-use Rattle.std.proofs.Common.{◌≡◌, ℕ, zero, suc, ◌+◌, ◌-◌, ◌<◌, ◌≤◌, false, List, [], ◌∷◌, ◌++◌, length, take, drop, refl, sym, ap, ◌∙◌, arith, length-append, inl, inr, Result, Ok, Err, IfOk}
+use Rattle.std.proofs.Common.{◌≡◌, ℕ, zero, suc, ◌+◌, ◌-◌, ◌<◌, ◌≤◌, true, false, List, [], ◌∷◌, ◌++◌, length, take, drop, refl, sym, ap, ◌∙◌, arith, length-append, inl, inr, Result, Ok, Err, IfOk}
 use Rattle.std.specs.Prelude.{replicate, nat_lt, if◌then◌else◌, ◌==◌}
 use Rattle.std.proofs.Math.Seq.{take-append_seam, drop-append_seam}
 use Rattle.std.proofs.lemmas.Bool.{cases_lt, cases_eq, le-ltb, lt-ltb}
 use Rattle.std.proofs.lemmas.Bool.Decides.{nat_tests}
 use Rattle.std.proofs.lemmas.List.{length-replicate}
 use Rattle.picky_asn1_bits.proofs.Numbers.{positive}
-use Rattle.picky_asn1_bits.specs.Integer.{repeats_sign, shortened, without_sign_byte, unsigned_spelling}
+use Rattle.picky_asn1_bits.specs.Integer.{IsShortest, repeats_sign, shortened, without_sign_byte, unsigned_spelling}
 use Rattle.picky_contract.specs.Refusals.{Meets, OkOrMemory}
 use Rattle.picky_contract.specs.laws.Tables.{Exact, need_exact, done_exact, then_exact, complete}
 use Rattle.picky_der.specs.Length.{IsBytes}
+use Rattle.picky_der.specs.Strings.{is_shortest}
+use Rattle.picky_der.specs.laws.Strings.{shortest-true, shortest-from}
 use Rattle.picky_key_der.specs.declared.ecdsa.EcdsaSignatureValue.{EcdsaSignatureValue}
 use Rattle.picky_key_der.specs.declared.error.SignatureError.{SignatureError}
 use Rattle.picky_key_der.specs.Ecdsa.{IsNumber, padded, fixed_of, Fits, ArePadded, ComesBack, number_table, fixed_table, signature_fault}
+
+-- ---- shortest spellings
+
+pub shortest_to : (octets : List ℕ) → is_shortest octets ≡ true → IsShortest octets
+shortest_to octets h = shortest-true octets h
+
+pub shortest_back : (octets : List ℕ) → IsShortest octets → is_shortest octets ≡ true
+shortest_back octets h = shortest-from octets h
 
 -- ---- 00 in front
 

@@ -12,7 +12,7 @@ use Rattle.picky_fields.specs.laws.Fields.{Lawful, one_lawful, and_lawful, seque
 use Rattle.picky_fields.specs.laws.Plain.{integer_lawful}
 use Rattle.picky_key_der.specs.Public.{bits_contents, whole_bits, information, rsa_public, is_point}
 
-whole_takes : (octets x : List ℕ) → whole_bytes octets ≡ Ok x → octets ≡ 0 ∷ x
+pub whole_takes : (octets x : List ℕ) → whole_bytes octets ≡ Ok x → octets ≡ 0 ∷ x
 unfolding whole_bytes
 whole_takes [] x e = absurd cc
 whole_takes (b ∷ bs) x e =
@@ -21,7 +21,7 @@ whole_takes (b ∷ bs) x e =
     let rest_is : bs ≡ x = ok_is bs x a.1 in
     rw zero_is (rw rest_is refl)
 
-whole_again : (octets x : List ℕ) → octets ≡ 0 ∷ x → whole_bytes octets ≡ Ok x
+pub whole_again : (octets x : List ℕ) → octets ≡ 0 ∷ x → whole_bytes octets ≡ Ok x
 unfolding whole_bytes
 whole_again octets x e = rw e refl
 
@@ -33,7 +33,7 @@ bits_decodes = record {
   one = λ s t x _ p q. p ∙ sym q;
 }
 
-whole_bits_lawful : Lawful whole_bits
+pub whole_bits_lawful : Lawful whole_bits
 unfolding whole_bits
 whole_bits_lawful = record {
   readable = primitive_readable (record { 0 = 3 }) bits_contents bits_decodes;

@@ -1,0 +1,42 @@
+//! Rows over keys and signatures in DER: lines that name a call and its arguments, answered by what the call gives.
+//!
+//!     public_key.read BYTES             what the key is, or the refusal
+//!     public_key.again BYTES            what the key that was read is written as
+//!     public_key.family BYTES           its family
+//!     public_key.point CURVE X Y        what the key of these coordinates is written as, or the refusal
+//!     public_key.rsa N E                what the RSA key of these numbers is written as, or the refusal
+//!     public_key.edwards NAME BYTES     what the key of this algorithm is written as, or the refusal
+//!     public_key.damaged BYTES          a letter for each of the first 64 bytes: what the key is with this byte changed
+//!     private_key.read BYTES            what the key is, with its public part, or the refusal
+//!     private_key.again BYTES           its PKCS #8 bytes
+//!     private_key.damaged BYTES         the same of a private key
+//!     ecdsa.of SIZE BYTES               what the pair of two halves is written as, or the refusal
+//!     ecdsa.fixed SIZE BYTES            the two halves of a pair in DER, or the refusal
+#![tactic(auto)]
+
+mod damage;
+mod ecdsa;
+mod private;
+mod public;
+
+use anyhow::{Result, bail};
+use rows::{Answer, Calls, Words, answer_rows};
+use std::alloc::Global;
+use std::process::ExitCode;
+
+struct KeyCalls;
+
+impl Calls for KeyCalls {
+    fn answer(alloc: Global, notion: &str, call: &str, words: &mut Words<'_>) -> Result<Answer> {
+        match notion {
+            "public_key" => public::answer(alloc, call, words),
+            "private_key" => private::answer(alloc, call, words),
+            "ecdsa" => ecdsa::answer(alloc, call, words),
+            _ => bail!("no such notion"),
+        }
+    }
+}
+
+fn main(rt: HostRuntime) -> Result<ExitCode> {
+    answer_rows::<KeyCalls>(&rt)
+}

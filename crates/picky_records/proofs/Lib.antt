@@ -1,0 +1,6 @@
+pub mod Cutting
+pub mod Rows
+pub mod Exits
+pub mod Documents
+pub mod Words
+pub mod Places

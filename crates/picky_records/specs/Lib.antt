@@ -1,0 +1,9 @@
+pub mod Same
+pub mod Lines
+pub mod Meanings
+pub mod Cutting
+pub mod Forms
+pub mod Reading
+pub mod Records
+pub mod Questions
+pub mod laws
