@@ -35,6 +35,8 @@ TEXTS = {
     ]
 }
 SPKI = "MCowBQYDK2VwAyEA" + "A" * 43
+PKCS8 = "MC4CAQAwBQYDK2VwBCIEI" + "A" * 43
+RSA = "MB4wDQYJKoZIhvcNAQEBBQADDQAwCgIDAQABAgMBAAE"
 KEY = '{"kty":"OKP","crv":"Ed25519","x":"%s","kid":"k1"}' % ("A" * 43)
 
 
@@ -105,6 +107,12 @@ DOCUMENTS = {
         for header, claims in [("K1_SPACE", "EXP"), ("K1", "NO_EXP"), ("K1", "NBF"), ("K1", "FLOAT")]
     ),
     "word": "x\n",
+    "mixed": f"sig rsa-sha256 {RSA} AAAA AAAA\npair {PKCS8} {SPKI}\n" + record(signed("K1", "EXP")),
+    "second-word": record(signed("K1", "EXP")) + "x\nx\n",
+    "no-end": record(signed("K1", "EXP"))[:-1],
+    "family": f"sig rsa-sha256 {SPKI} AAAA AAAA\n",
+    "conflict": f"pair {PKCS8} {SPKI}\npair {PKCS8} {SPKI[:-1]}E\n",
+    "same-pair": f"pair {PKCS8} {SPKI}\n" * 2 + record(signed("K1", "EXP")),
     "latin": b"\xe9",
     "five": "five5",
     "empty": "",
@@ -216,8 +224,14 @@ RUNS = [
     ("records that are no text", words(FIRST, records="latin"), 4, "bad records Utf8\\n"),
     ("keys without keys", words(FIRST, keys="object"), 4, "bad keys Jwk.Unbuilt\\n"),
     ("two keys of one name", words(FIRST, keys="twice"), 4, "bad keys Jwk.Unbuilt\\n"),
-    ("a line of no form", words(FIRST, records="word"), 4, "bad records Unbuilt\\n"),
-    ("records are checked first", words(FIRST, keys="object", records="word"), 4, "bad records Unbuilt\\n"),
+    ("a line of no form", words(FIRST, records="word"), 4, "bad records BadLine 1\\n"),
+    ("records are checked first", words(FIRST, keys="object", records="word"), 4, "bad records BadLine 1\\n"),
+    ("records of other keys and pairs beside the token's", words(FIRST, records="mixed"), 0, ADMITTED),
+    ("the first of two lines of no form", words(FIRST, records="second-word"), 4, "bad records BadLine 2\\n"),
+    ("a last line without its end", words(FIRST, records="no-end"), 4, "bad records BadLine 1\\n"),
+    ("an RSA algorithm of an Ed25519 key", words(FIRST, records="family"), 4, "bad records Family 1\\n"),
+    ("two public keys of one private key", words(FIRST, records="conflict"), 4, "bad records Conflict 2\\n"),
+    ("the same pair twice", words(FIRST, records="same-pair"), 0, ADMITTED),
 ]
 
 HTTP = "refused Http."

@@ -1,10 +1,13 @@
 #!/usr/bin/env python3
-"""Prints rows of `token_rows` that Python makes: JSON by its json, bytes by its base64, dates by its integers.
+"""Prints rows of `token_rows` that Python makes: JSON by its json, bytes by its base64, dates by its integers, pairs of numbers in
+DER by its cryptography.
 
 Each row stands in crates/token_rows/stdout.
 """
 import base64
 import json
+
+from cryptography.hazmat.primitives.asymmetric.utils import encode_dss_signature
 
 DEEPEST = 127
 
@@ -144,6 +147,45 @@ def date_rows():
             print(f"{name}: date.{call} {now} {leeway} {other} => {str(holds(other)).lower()}")
 
 
+def url(some):
+    return base64.urlsafe_b64encode(some).rstrip(b"=").decode()
+
+
+SIGNED = url(b'{"alg":"ES256","kid":"e"}') + "." + url(b'{"exp":100}')
+
+
+def pair_rows():
+    print("# ECDSA signatures: the DER of their pairs by Python's cryptography")
+    low, high = 1, 2**256 - 1
+    for name, alg, r, s, size, more in [
+        ("a pair with a sign byte", "ES256", 1, 0x80, 32, b""),
+        ("a pair of the greatest numbers of 32 bytes", "ES256", high, high, 32, b""),
+        ("a pair with zero", "ES256", 0, low, 32, b""),
+    ]:
+        pair = encode_dss_signature(r, s)
+        halves = r.to_bytes(size, "big") + s.to_bytes(size, "big")
+        print(f"{name}: jws.verify_p256 {alg} {SIGNED}.{url(halves)} {pair.hex()} => Ok")
+    pair = encode_dss_signature(1, 0x80)
+    halves = (1).to_bytes(32, "big") + (0x80).to_bytes(32, "big")
+    swapped = halves[32:] + halves[:32]
+    bad = "Signature { source: BadSignature }"
+    for name, alg, text, answer in [
+        ("a pair whose numbers are exchanged", "ES256", f"{SIGNED}.{url(swapped)}", bad),
+        ("a pair under another hash", "ES384", f"{SIGNED}.{url(bytes(16) + halves[:32] + bytes(16) + halves[32:])}", bad),
+        ("a pair asked as it stands", "EdDSA", f"{SIGNED}.{url(halves)}", bad),
+        ("its DER in place of the halves", "ES256", f"{SIGNED}.{url(pair)}", size_answer(64, len(pair))),
+        ("63 bytes", "ES256", f"{SIGNED}.{url(halves[:63])}", size_answer(64, 63)),
+        ("65 bytes", "ES256", f"{SIGNED}.{url(halves + bytes(1))}", size_answer(64, 65)),
+        ("64 bytes of P-384", "ES384", f"{SIGNED}.{url(halves)}", size_answer(96, 64)),
+        ("64 bytes of P-521", "ES512", f"{SIGNED}.{url(halves)}", size_answer(132, 64)),
+    ]:
+        print(f"{name}: jws.verify_p256 {alg} {text} {pair.hex()} => {answer}")
+
+
+def size_answer(expected, got):
+    return f"Signature {{ source: Ec {{ expected: {expected}, got: {got} }} }}"
+
+
 json_rows()
 print()
 part_rows()
@@ -151,3 +193,5 @@ print()
 claims_rows()
 print()
 date_rows()
+print()
+pair_rows()

@@ -13,7 +13,7 @@ use Rattle.picky_http.specs.Lines.{Request}
 use Rattle.picky_http.specs.Refusals.{reading_table}
 use Rattle.picky_http.specs.Verifying.{answers_of, checked_table, rows_table, signed_table}
 use Rattle.picky_http.specs.laws.Readings.{reading_exact, to_reading, from_reading}
-use Rattle.picky_http.specs.laws.Verifying.{checked_exact}
+use Rattle.picky_http.specs.laws.Verifying.{to_message, from_message, to_fits, from_fits, to_force, from_force, to_begun, from_begun, checked_exact}
 use Rattle.picky_gate.specs.Entry.{public}
 use Rattle.picky_gate.specs.TextMap.{TextMap}
 use Rattle.picky_gate.specs.Claims.{FirstClaimsOf}
@@ -75,11 +75,11 @@ module _ (signs : Relation) (ring : TextMap RingEntry) (policy : Policy) (asked 
     reads = to_reading text r reads;
     key = key;
     named = named;
-    fits = fits;
-    lasts = lasts;
-    started = started;
+    fits = to_fits (public key.entry) key.algorithm r.algorithm fits;
+    lasts = to_force policy.now policy.leeway r.expires lasts;
+    started = to_begun policy.now policy.leeway r.created started;
     message = message;
-    signs_it = signs_it;
+    signs_it = to_message asked r message signs_it;
     signature = signature;
     spelled = spelled;
     vouched = vouched;
@@ -88,7 +88,12 @@ module _ (signs : Relation) (ring : TextMap RingEntry) (policy : Policy) (asked 
 
   from_header : (text : List ℕ) (a : Admission) → HeaderAdmissible signs ring policy asked text a → (header_table signs ring policy asked text).holds a
   unfolding header_table rows_table signed_table
-  from_header text a h = (h.reading, from_reading text h.reading h.reads, (h.key, h.named, (tt, (tt, h.fits, (tt, h.lasts, (tt, h.started, (h.message, h.signs_it, (h.signature, h.spelled, h.vouched))))), h.is)))
+  from_header text a h =
+      let fits = from_fits (public h.key.entry) h.key.algorithm h.reading.algorithm h.fits in
+      let lasts = from_force policy.now policy.leeway h.reading.expires h.lasts in
+      let started = from_begun policy.now policy.leeway h.reading.created h.started in
+      let signs_it = from_message asked h.reading h.message h.signs_it in
+      (h.reading, from_reading text h.reading h.reads, (h.key, h.named, (tt, (tt, fits, (tt, lasts, (tt, started, (h.message, signs_it, (h.signature, h.spelled, h.vouched))))), h.is)))
 
   scheme_exact : (scheme : Scheme) → Exact (scheme_table signs ring policy asked scheme)
   scheme_exact (bearer text) = token_exact text

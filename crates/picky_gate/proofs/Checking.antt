@@ -3,7 +3,7 @@ use Rattle.std.proofs.Common.{◌≡◌, ℕ, List, Option, Some, None, Result, 
 use Rattle.std.specs.Prelude.{⊤}
 use Rattle.picky_contract.specs.Refusals.{Meets, the}
 use Rattle.picky_contract.specs.laws.Tables.{leads_meets}
-use Rattle.picky_key.specs.declared.key.PublicKeyKind.{PublicKeyKind}
+use Rattle.picky_key_der.specs.declared.public.PublicKeyKind.{PublicKeyKind}
 use Rattle.picky_key.specs.declared.algorithm.SignatureAlgorithm.{SignatureAlgorithm}
 use Rattle.picky_key.specs.Signatures.{Relation}
 use Rattle.picky_http_request.specs.Answers.{Answer}

@@ -6,7 +6,11 @@ use Rattle.picky_contract.specs.Refusals.{done}
 use Rattle.std.proofs.lemmas.List.{take_all, length-take}
 use Rattle.picky_contract.specs.laws.Tables.{Exact, the_exact, need_exact, done_exact, then_exact, named_exact, Leads, leads_itself, then_leads, named_leads}
 use Rattle.picky_key.specs.Signatures.{Relation}
-use Rattle.picky_key.specs.Records.{FirstRecordsOf, Signs}
+use Rattle.picky_records.specs.Meanings.{signs_by}
+use Rattle.picky_records.specs.Reading as records
+use Rattle.picky_records.specs.Records.{AreRecords}
+use Rattle.picky_records.specs.laws.Exact as exact
+use Rattle.picky_records.specs.laws.Records.{records_are, records_hold}
 use Rattle.picky_jwk.specs.Refusals.{unbuilt}
 use Rattle.picky_http_request.specs.declared.head.RequestField.{RequestField}
 use Rattle.picky_http_request.specs.declared.head.RequestHead.{RequestHead}
@@ -21,7 +25,7 @@ use Rattle.picky_gate.specs.declared.ring.RingEntry.{RingEntry}
 use Rattle.picky_gate.specs.Admissible.{Admission, SchemeAdmissible}
 use Rattle.picky_gate.specs.Command.{Admit}
 use Rattle.picky_gate.specs.Documents.{limit, text_table, records_table, keys_table, head_table, request_table, request_decision, keys_decision, decision, IsRequest, IsAdmissible}
-use Rattle.picky_gate.specs.Faults.{too_long, not_utf8, of_keys, unbuilt_records, bad_head, bad, refused}
+use Rattle.picky_gate.specs.Faults.{too_long, not_utf8, of_keys, of_records, bad_head, bad, refused}
 use Rattle.picky_gate.specs.Lines.{IsPrintable}
 use Rattle.picky_gate.specs.Moment.{policy_of}
 use Rattle.picky_gate.specs.Refusals.{admits_table}
@@ -39,7 +43,7 @@ text_exact doc =
 
 records_exact : (doc : List ℕ) → Exact (records_table doc)
 unfolding records_table
-records_exact doc = then_exact _ _ (text_exact doc) (λ text. the_exact (FirstRecordsOf text) unbuilt_records)
+records_exact doc = then_exact _ _ (text_exact doc) (λ text. named_exact of_records (records.records_table text) (exact.records_exact text))
 
 keys_exact : (doc : List ℕ) → Exact (keys_table doc)
 unfolding keys_table
@@ -74,7 +78,7 @@ decision_exact c docs =
     then_exact _ _ (named_exact (bad document.Records) (records_table docs.records) (records_exact docs.records)) (λ records.
     then_exact _ _ (named_exact (bad document.Keys) (keys_table docs.keys) (keys_exact docs.keys)) (λ ring.
     then_exact _ _ (named_exact (bad document.Request) (request_table docs.request) (request_exact docs.request)) (λ head.
-    named_exact refused (admits_table (Signs records) ring (policy_of c) (asked_of head) c.text) (admits_exact (Signs records) ring (policy_of c) (asked_of head) c.text))))
+    named_exact refused (admits_table (signs_by records) ring (policy_of c) (asked_of head) c.text) (admits_exact (signs_by records) ring (policy_of c) (asked_of head) c.text))))
 
 pub to_words : (c : Admit) (docs : Documents) (a : Admission) → (decision c docs).holds a → IsAdmissible c docs a
 unfolding decision keys_decision request_decision records_table keys_table text_table
@@ -82,22 +86,22 @@ to_words c docs a (records, (rs, (u, records_fit, (v, records_utf8, rs_is)), are
   records_fit = records_fit;
   records_utf8 = records_utf8;
   records = records;
-  are_records = subst (λ (d : List ℕ). FirstRecordsOf d records) rs_is are_records;
+  are_records = subst (λ (d : List ℕ). AreRecords d records) rs_is (records_are rs records are_records);
   keys_fit = keys_fit;
   keys_utf8 = keys_utf8;
   ring = ring;
   is_ring = subst (λ (d : List ℕ). FirstRingOf d ring) ks_is is_ring;
   head = head;
   is_request = request_is docs.request head is_head;
-  admissible = to_admissible (Signs records) ring (policy_of c) (asked_of head) c.text a admits;
+  admissible = to_admissible (signs_by records) ring (policy_of c) (asked_of head) c.text a admits;
 }
 
 pub from_words : (c : Admit) (docs : Documents) (a : Admission) → IsAdmissible c docs a → (decision c docs).holds a
 unfolding decision keys_decision request_decision records_table keys_table text_table
 from_words c docs a h = (
   h.records,
-  (docs.records, (tt, h.records_fit, (tt, h.records_utf8, refl)), h.are_records),
-  (h.ring, (docs.keys, (tt, h.keys_fit, (tt, h.keys_utf8, refl)), h.is_ring), (h.head, is_request docs.request h.head h.is_request, from_admissible (Signs h.records) h.ring (policy_of c) (asked_of h.head) c.text a h.admissible)),
+  (docs.records, (tt, h.records_fit, (tt, h.records_utf8, refl)), records_hold docs.records h.records h.are_records),
+  (h.ring, (docs.keys, (tt, h.keys_fit, (tt, h.keys_utf8, refl)), h.is_ring), (h.head, is_request docs.request h.head h.is_request, from_admissible (signs_by h.records) h.ring (policy_of c) (asked_of h.head) c.text a h.admissible)),
 )
 
 -- what is admissible is printed: the claims of a token are float-free
@@ -108,7 +112,7 @@ printed signs ring policy asked (header_text text) a h = subst IsPrintable (sym 
 pub printable : (c : Admit) (docs : Documents) (a : Admission) → (decision c docs).gives a → IsPrintable a
 printable c docs a gives =
     let h = to_words c docs a ((decision_exact c docs).holds a gives) in
-    printed (Signs h.records) h.ring (policy_of c) (asked_of h.head) h.admissible.scheme a h.admissible.admissible
+    printed (signs_by h.records) h.ring (policy_of c) (asked_of h.head) h.admissible.scheme a h.admissible.admissible
 
 -- ---- a document that was cut after the limit is refused as the whole is
 

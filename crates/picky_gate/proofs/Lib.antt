@@ -6,6 +6,7 @@ pub mod TextMaps
 pub mod ClaimsLemmas
 pub mod Vouching
 pub mod Admitting
+pub mod Causes
 pub mod Schemes
 pub mod Rings
 pub mod Delivery

@@ -4,7 +4,7 @@ use Rattle.std.proofs.lemmas.List.{append-nil, map-append}
 use Rattle.std.specs.FinMap.{get, insert}
 use Rattle.std.specs.List.{AllZip}
 use Rattle.picky_contract.specs.Refusals.{Finds}
-use Rattle.picky_key.specs.declared.key.PublicKeyKind.{PublicKeyKind}
+use Rattle.picky_key_der.specs.declared.public.PublicKeyKind.{PublicKeyKind}
 use Rattle.picky_jwk.specs.Jwk.{Jwk, KeyType}
 use Rattle.picky_jwk.specs.Keys.{FirstKeysOf}
 use Rattle.picky_jwk.specs.Refusals.{Fault, key_table}

@@ -14,8 +14,7 @@ use Rattle.picky_base64.specs.Base64.{B64}
 use Rattle.picky_http.specs.Lines.{Request}
 use Rattle.picky_http.specs.Reading.{HeaderReading}
 use Rattle.picky_http.specs.Reading as header
-use Rattle.picky_http.specs.Verifying.{algorithm_table, expires_table, created_table, message_table, form_of}
-use Rattle.picky_http.specs.Verifying.{answers_of}
+use Rattle.picky_http.specs.Verifying.{AlgorithmFits, IsInForce, HasBegun, IsMessage, form_of}
 use Rattle.picky_gate.specs.declared.policy.Policy.{Policy}
 use Rattle.picky_gate.specs.declared.ring.RingEntry.{RingEntry}
 use Rattle.picky_gate.specs.Claims.{Claims, FirstClaimsOf}
@@ -91,11 +90,11 @@ pub record HeaderAdmissible (signs : Relation) (ring : TextMap RingEntry) (polic
   pub reads : HeaderReading text reading
   pub key : NamedKey
   pub named : IsKeyUnder ring (Some reading.key_id) key
-  pub fits : (algorithm_table (public key.entry) key.algorithm reading.algorithm).holds tt
-  pub lasts : (expires_table policy.now policy.leeway reading.expires).holds tt
-  pub started : (created_table policy.now policy.leeway reading.created).holds tt
+  pub fits : AlgorithmFits (public key.entry) key.algorithm reading.algorithm
+  pub lasts : IsInForce policy.now policy.leeway reading.expires
+  pub started : HasBegun policy.now policy.leeway reading.created
   pub message : List ℕ
-  pub signs_it : (message_table (answers_of asked) reading).holds message
+  pub signs_it : IsMessage asked reading message
   pub signature : List ℕ
   pub spelled : B64 (form_of reading.legacy) reading.signature signature
   pub vouched : Vouched signs key.entry key.algorithm message signature

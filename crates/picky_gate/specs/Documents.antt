@@ -1,8 +1,10 @@
 -- The documents of a command, and what the command comes to over them, in order (own).
 use Rattle.std.specs.Prelude.{⊤, ◌≤◌, ℕ, List, Option, Some, None, length, IsUtf8}
 use Rattle.picky_contract.specs.Refusals.{Table, the, need, named, done, ◌>>=◌}
-use Rattle.picky_key.specs.declared.recorded.Signature.{Signature}
-use Rattle.picky_key.specs.Records.{FirstRecordsOf, Signs}
+use Rattle.picky_records.specs.declared.line.Line.{Line}
+use Rattle.picky_records.specs.Meanings.{signs_by}
+use Rattle.picky_records.specs.Reading as records
+use Rattle.picky_records.specs.Records.{AreRecords}
 use Rattle.picky_jwk.specs.Refusals.{unbuilt}
 use Rattle.picky_gate.specs.declared.ring.RingEntry.{RingEntry}
 use Rattle.picky_http_request.specs.Heads.{Head, RequestOf}
@@ -11,7 +13,7 @@ use Rattle.picky_gate.specs.declared.documents.Document.TheVariants as document
 use Rattle.picky_gate.specs.declared.documents.Documents.{Documents}
 use Rattle.picky_gate.specs.Admissible.{Admission, Admissible}
 use Rattle.picky_gate.specs.Command.{Admit}
-use Rattle.picky_gate.specs.Faults.{Flaw, too_long, not_utf8, of_keys, unbuilt_records, bad_head, Why, bad, refused}
+use Rattle.picky_gate.specs.Faults.{Flaw, too_long, not_utf8, of_keys, of_records, bad_head, Why, bad, refused}
 use Rattle.picky_gate.specs.Moment.{policy_of}
 use Rattle.picky_gate.specs.Refusals.{admits_table}
 use Rattle.picky_gate.specs.Ring.{FirstRingOf}
@@ -33,11 +35,11 @@ text_table doc = do
   utf8 ← need (IsUtf8 doc) not_utf8
   done doc
 
--- a records document, and its recorded signatures
-unfoldable pub records_table : List ℕ → Table (List Signature) Flaw
+-- a records document, and its lines
+unfoldable pub records_table : List ℕ → Table (List Line) Flaw
 records_table doc = do
   text ← text_table doc
-  the (FirstRecordsOf text) unbuilt_records
+  named of_records (records.records_table text)
 
 -- a keys document, and its ring
 unfoldable pub keys_table : List ℕ → Table (TextMap RingEntry) Flaw
@@ -59,17 +61,17 @@ request_table (Some doc) = do
   done (Some head)
 
 -- the text, over the records, the ring and a request
-abbrev pub text_decision : Admit → List Signature → TextMap RingEntry → Request → Table Admission Why
-text_decision c records ring request = named refused (admits_table (Signs records) ring (policy_of c) request c.text)
+abbrev pub text_decision : Admit → List Line → TextMap RingEntry → Request → Table Admission Why
+text_decision c records ring request = named refused (admits_table (signs_by records) ring (policy_of c) request c.text)
 
 -- the same from the request on
-unfoldable pub request_decision : Admit → Documents → List Signature → TextMap RingEntry → Table Admission Why
+unfoldable pub request_decision : Admit → Documents → List Line → TextMap RingEntry → Table Admission Why
 request_decision c docs records ring = do
   head ← named (bad document.Request) (request_table docs.request)
   text_decision c records ring (asked_of head)
 
 -- the same from the keys on
-unfoldable pub keys_decision : Admit → Documents → List Signature → Table Admission Why
+unfoldable pub keys_decision : Admit → Documents → List Line → Table Admission Why
 keys_decision c docs records = do
   ring ← named (bad document.Keys) (keys_table docs.keys)
   request_decision c docs records ring
@@ -90,12 +92,12 @@ IsRequest _ _ = ⊥
 pub record IsAdmissible (c : Admit) (docs : Documents) (a : Admission) : Type 0 where
   pub records_fit : length docs.records ≤ limit
   pub records_utf8 : IsUtf8 docs.records
-  pub records : List Signature
-  pub are_records : FirstRecordsOf docs.records records
+  pub records : List Line
+  pub are_records : AreRecords docs.records records
   pub keys_fit : length docs.keys ≤ limit
   pub keys_utf8 : IsUtf8 docs.keys
   pub ring : TextMap RingEntry
   pub is_ring : FirstRingOf docs.keys ring
   pub head : Option Head
   pub is_request : IsRequest docs.request head
-  pub admissible : Admissible (Signs records) ring (policy_of c) (asked_of head) c.text a
+  pub admissible : Admissible (signs_by records) ring (policy_of c) (asked_of head) c.text a

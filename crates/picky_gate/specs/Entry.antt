@@ -1,6 +1,6 @@
 -- Entries of a ring (own).
 use Rattle.std.specs.Prelude.{Option, Some}
-use Rattle.picky_key.specs.declared.key.PublicKeyKind.{PublicKeyKind}
+use Rattle.picky_key_der.specs.declared.public.PublicKeyKind.{PublicKeyKind}
 use Rattle.picky_key.specs.declared.algorithm.SignatureAlgorithm.{SignatureAlgorithm}
 use Rattle.picky_gate.specs.declared.ring.RingEntry.{RingEntry}
 use Rattle.picky_gate.specs.declared.ring.RingEntry.TheVariants.{Verify}

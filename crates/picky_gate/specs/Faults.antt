@@ -1,6 +1,7 @@
 -- Why the program has no admitted text: a document that is no grammar's, or a refusal (own).
 use Rattle.std.specs.Prelude.{Option, Some, None, option_map}
-use Rattle.picky_key.specs.Records as records
+use Rattle.picky_records.specs.Reading as records
+use Rattle.picky_records.specs.declared.error.RecordFault.{RecordFault}
 use Rattle.picky_jwk.specs.Refusals as jwk
 use Rattle.picky_http_request.specs.Heads as heads
 use Rattle.picky_gate.specs.declared.documents.Document.{Document}
@@ -15,14 +16,14 @@ pub data Flaw : Type 0 where
   too_long : Flaw
   not_utf8 : Flaw
   of_keys : jwk.Fault → Flaw
-  unbuilt_records : Flaw
+  of_records : RecordFault → Flaw
   bad_head : Flaw
 
 abbrev pub flaw_of : DocumentFault → Option Flaw
 flaw_of of_document.TooLong = Some too_long
 flaw_of of_document.Utf8 = Some not_utf8
 flaw_of (of_document.Jwk error) = option_map of_keys (jwk.fault error)
-flaw_of (of_document.Records error) = option_map (λ _. unbuilt_records) (records.fault error)
+flaw_of (of_document.Records error) = option_map of_records (records.fault error)
 flaw_of (of_document.Head error) = option_map (λ _. bad_head) (heads.head_fault error)
 flaw_of of_document.OutOfMemory = None
 

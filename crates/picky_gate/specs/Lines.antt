@@ -15,11 +15,13 @@ use Rattle.picky_http.specs.Signing.{part_text}
 use Rattle.picky_key.specs.declared.algorithm.SignatureAlgorithm.{SignatureAlgorithm}
 use Rattle.picky_key.specs.Words.{algorithm_word}
 use Rattle.std.specs.Fmt.{decimal}
+use Rattle.picky_records.specs.declared.error.RecordFault.{RecordFault}
+use Rattle.picky_records.specs.declared.error.RecordFault.TheVariants.{BadLine, Family, Conflict, OutOfMemory}
 use Rattle.picky_gate.specs.declared.documents.Document.{Document}
 use Rattle.picky_gate.specs.declared.documents.Document.TheVariants.{Keys, Records, Request}
 use Rattle.picky_gate.specs.Admissible.{Admission, token, request}
-use Rattle.picky_gate.specs.Faults.{Flaw, too_long, not_utf8, of_keys, unbuilt_records, bad_head, Why, bad, refused}
-use Rattle.picky_gate.specs.Refusals.{Cause, no_scheme, no_key, of_http, of_token, unbuilt}
+use Rattle.picky_gate.specs.Faults.{Flaw, too_long, not_utf8, of_keys, of_records, bad_head, Why, bad, refused}
+use Rattle.picky_gate.specs.Refusals.{Cause, no_scheme, no_key, of_http, of_token, unbuilt, inner_memory}
 
 -- the two lines of a token: its key's name and its claims as compact JSON
 abbrev pub token_text : List ℕ → JwsAlg → Data → List ℕ
@@ -76,8 +78,9 @@ jwt_text (jose.no_integer claim) = codes "Jwt.InvalidRegisteredClaimType"
 jwt_text (jose.missing claim) = codes "Jwt.RequiredClaimMissing"
 jwt_text (jose.not_yet_valid start date) = codes "Jwt.NotYetValid"
 jwt_text (jose.expired end date) = codes "Jwt.Expired"
-jwt_text jose.invalid_validator = codes "Jwt.InvalidValidator"
+jwt_text (jose.invalid_validator description) = codes "Jwt.InvalidValidator"
 jwt_text jose.has_float = codes "Jwt.Float"
+jwt_text jose.inner_memory = codes "Jwt.Jws"
 
 abbrev pub http_text : http.HttpFault → List ℕ
 http_text http.not_base64 = codes "Http.Base64Decoding"
@@ -89,6 +92,7 @@ http_text (http.missing_argument argument) = codes "Http.MissingBuilderArgument"
 http_text (http.missing_parameter parameter) = codes "Http.MissingRequiredParameter"
 http_text (http.invalid_parameter parameter) = codes "Http.InvalidParameter"
 http_text (http.incompatible algorithm) = codes "Http.IncompatibleAlgorithm"
+http_text http.inner_memory = codes "Http.SigningStringGeneration"
 
 abbrev pub cause_text : Cause → List ℕ
 cause_text no_scheme = codes "NoScheme"
@@ -96,17 +100,25 @@ cause_text no_key = codes "NoKey"
 cause_text (of_http fault) = http_text fault
 cause_text (of_token fault) = jwt_text fault
 cause_text unbuilt = codes "Unbuilt"
+cause_text inner_memory = codes "OutOfMemory"
 
 abbrev pub keys_text : jwk.Fault → List ℕ
 keys_text jwk.not_base64 = codes "Jwk.Base64Decoding"
 keys_text jwk.bad_ed_key = codes "Jwk.InvalidEdPublicKey"
 keys_text jwk.unbuilt = codes "Jwk.Unbuilt"
 
+-- the fault of a records document and its line; want of memory, which no table names, has no text
+abbrev pub records_text : RecordFault → List ℕ
+records_text (BadLine line) = codes "BadLine " ++ decimal line
+records_text (Family line) = codes "Family " ++ decimal line
+records_text (Conflict line) = codes "Conflict " ++ decimal line
+records_text OutOfMemory = []
+
 abbrev pub flaw_text : Flaw → List ℕ
 flaw_text too_long = codes "TooLong"
 flaw_text not_utf8 = codes "Utf8"
 flaw_text (of_keys fault) = keys_text fault
-flaw_text unbuilt_records = codes "Unbuilt"
+flaw_text (of_records fault) = records_text fault
 flaw_text bad_head = codes "BadHead"
 
 abbrev pub why_text : Why → List ℕ

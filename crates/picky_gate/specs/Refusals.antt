@@ -1,5 +1,5 @@
 -- Why a text isn't admitted, and the conditions of a text in their order (own).
-use Rattle.std.specs.Prelude.{ℕ, List, Option, Some, None, option_map, string_bytes}
+use Rattle.std.specs.Prelude.{ℕ, List, Option, Some, None, string_bytes}
 use Rattle.serde_json.specs.View.{view}
 use Rattle.picky_contract.specs.Refusals.{Table, the, need, named, done, ◌>>=◌}
 use Rattle.picky_key.specs.Signatures.{Relation, bad}
@@ -31,19 +31,26 @@ abbrev pub admission_of : Admitted → Admission
 admission_of (Token name header claims) = token (string_bytes name.0) (header_view header) (view claims)
 admission_of (Signed name algorithm said) = request (string_bytes name.0) algorithm (reading_of said)
 
--- why a text isn't admitted, want of memory aside
+-- Why a text isn't admitted, want of memory aside. No table names `inner_memory`, the want of memory of an inner error,
+-- so none is carried: it is the refusal's own.
 pub data Cause : Type 0 where
   no_scheme : Cause
   no_key : Cause
   of_http : HttpFault → Cause
   of_token : JwtFault → Cause
   unbuilt : Cause
+  inner_memory : Cause
+
+-- what an inner error says
+abbrev pub held : {F : Type 0} → (F → Cause) → Option F → Cause
+held as_cause (Some fault) = as_cause fault
+held as_cause None = inner_memory
 
 abbrev pub cause_of : Refusal → Option Cause
 cause_of refusal.NoScheme = Some no_scheme
 cause_of refusal.NoKey = Some no_key
-cause_of (refusal.Http error) = option_map of_http (http_fault error)
-cause_of (refusal.Token error) = option_map of_token (jwt_fault error)
+cause_of (refusal.Http error) = Some (held of_http (http_fault error))
+cause_of (refusal.Token error) = Some (held of_token (jwt_fault error))
 cause_of refusal.OutOfMemory = None
 cause_of refusal.Unbuilt = Some unbuilt
 

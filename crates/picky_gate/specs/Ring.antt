@@ -2,7 +2,7 @@
 use Rattle.std.specs.Prelude.{◌≡◌, ℕ, List, [], ◌∷◌, Option, Some, None, string_bytes}
 use Rattle.std.specs.List.{AllZip}
 use Rattle.std.specs.FinMap.{get, from_entries}
-use Rattle.picky_key.specs.declared.key.PublicKeyKind.{PublicKeyKind}
+use Rattle.picky_key_der.specs.declared.public.PublicKeyKind.{PublicKeyKind}
 use Rattle.picky_key.specs.declared.algorithm.SignatureAlgorithm.TheVariants.{Ed25519}
 use Rattle.picky_jwk.specs.Jwk.{Jwk, KeyType}
 use Rattle.picky_jwk.specs.Keys.{FirstKeysOf}

@@ -73,6 +73,7 @@ impl From<HttpSignatureError> for Refusal {
 
     ghost from_gives = { λ error refusal. cause_of refusal ≡ option_map of_http (http_fault error) };
 
+    #[tactic(auto, using(crate::proofs::Causes::http_held))]
     fn from(error: HttpSignatureError) -> Refusal {
         match error {
             HttpSignatureError::OutOfMemory => Refusal::OutOfMemory,
@@ -89,10 +90,10 @@ impl From<JwtError> for Refusal {
 
     ghost from_gives = { λ error refusal. MatchOption (jwt_fault error) (refusal ≡ OutOfMemory) (λ f. cause_of refusal ≡ Some (of_token f)) };
 
+    #[tactic(auto, using(crate::proofs::Causes::jwt_held))]
     fn from(error: JwtError) -> Refusal {
         match error {
             JwtError::OutOfMemory => Refusal::OutOfMemory,
-            JwtError::Jws { source } => Refusal::from(source),
             error => Refusal::Token(error),
         }
     }
@@ -106,6 +107,7 @@ impl From<JwsError> for Refusal {
 
     ghost from_gives = { λ error refusal. MatchOption (jws_fault error) (refusal ≡ OutOfMemory) (λ f. cause_of refusal ≡ Some (of_token (jws f))) };
 
+    #[tactic(auto, using(crate::proofs::Causes::jws_held))]
     fn from(error: JwsError) -> Refusal {
         match error {
             JwsError::OutOfMemory => Refusal::OutOfMemory,

@@ -13,7 +13,7 @@ use crate::{AdmitWords, Admitted, Refusal, Ring, admit};
 use picky_contract::Bytes;
 use picky_http_request::{HeadFault, HttpRequest, NoRequest, RequestHead, read_head};
 use picky_jwk::JwkError;
-use picky_key::{RecordFault, Recorded};
+use picky_records::{RecordFault, Recorded};
 use std::alloc::{AllocError, Global};
 use std::str;
 
@@ -82,7 +82,7 @@ fn text_of(document: &[u8]) -> Result<&str, DocumentFault>
 
 #[tactic(auto, unfolding(crate::specs::Documents::records_table))]
 fn read_records(alloc: Global, document: &[u8]) -> Result<Recorded, DocumentFault>
-    ensures { Meets (λ p. p) flaw_of result (records_table document.now) }
+    ensures { Meets (λ p. p.lines.items) flaw_of result (records_table document.now) }
 {
     match text_of(document) {
         Ok(text) => match Recorded::read(alloc, text) {
@@ -121,7 +121,7 @@ fn read_request(alloc: Global, document: &[u8]) -> Result<RequestHead, DocumentF
 
 // The provider of a records document.
 fn provider_in(alloc: Global, document: &Bytes) -> Result<Recorded, DocumentFault>
-    ensures { Meets (λ p. p) flaw_of result (records_table document.now) }
+    ensures { Meets (λ p. p.lines.items) flaw_of result (records_table document.now) }
 {
     read_records(alloc, document.as_slice())
 }
@@ -154,7 +154,7 @@ fn decide_text<Q: HttpRequest>(
     ring: &Ring,
     request: &Q,
 ) -> Result<Admitted, Fault>
-    ensures { Meets admission_of why_of result (text_decision (admit_of words.entry) provider.now ring.now (request_of Q.answer Q.method Q.target request.now)) }
+    ensures { Meets admission_of why_of result (text_decision (admit_of words.entry) provider.now.lines.items ring.now (request_of Q.answer Q.method Q.target request.now)) }
 {
     match admit(alloc, words.text, request, ring, provider, &words.policy()) {
         Ok(admitted) => Ok(admitted),
@@ -170,7 +170,7 @@ fn decide_from_request(
     provider: &Recorded,
     ring: &Ring,
 ) -> Result<Admitted, Fault>
-    ensures { Meets admission_of why_of result (request_decision (admit_of words.entry) documents.now provider.now ring.now) }
+    ensures { Meets admission_of why_of result (request_decision (admit_of words.entry) documents.now provider.now.lines.items ring.now) }
 {
     let request = match request_in(alloc, &documents.request) {
         Ok(request) => request,
@@ -194,7 +194,7 @@ fn decide_from_keys(
     documents: &Documents,
     provider: &Recorded,
 ) -> Result<Admitted, Fault>
-    ensures { Meets admission_of why_of result (keys_decision (admit_of words.entry) documents.now provider.now) }
+    ensures { Meets admission_of why_of result (keys_decision (admit_of words.entry) documents.now provider.now.lines.items) }
 {
     let ring = match ring_in(alloc, &documents.keys) {
         Ok(ring) => ring,

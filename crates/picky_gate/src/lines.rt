@@ -21,7 +21,8 @@ use picky_http_request::{HeadFault, HttpRequestError};
 use picky_jose::{JwsError, JwtError};
 use picky_json::{compact, json_text_of};
 use picky_jwk::{JwkError, JwsAlg};
-use picky_key::{RecordFault, SignatureAlgorithm};
+use picky_key::SignatureAlgorithm;
+use picky_records::RecordFault;
 use serde_json::Value;
 use std::alloc::{AllocError, Global};
 
@@ -217,7 +218,15 @@ fn bad_line(alloc: Global, document: Document, fault: &DocumentFault) -> Result<
             format!(in alloc; "bad {name} Jwk.InvalidEdPublicKey\n")
         }
         DocumentFault::Jwk(JwkError::Unbuilt) => format!(in alloc; "bad {name} Jwk.Unbuilt\n"),
-        DocumentFault::Records(RecordFault::Unbuilt) => format!(in alloc; "bad {name} Unbuilt\n"),
+        DocumentFault::Records(RecordFault::BadLine { line }) => {
+            format!(in alloc; "bad {name} BadLine {line}\n")
+        }
+        DocumentFault::Records(RecordFault::Family { line }) => {
+            format!(in alloc; "bad {name} Family {line}\n")
+        }
+        DocumentFault::Records(RecordFault::Conflict { line }) => {
+            format!(in alloc; "bad {name} Conflict {line}\n")
+        }
         DocumentFault::Head(HeadFault::BadHead) => format!(in alloc; "bad {name} BadHead\n"),
         DocumentFault::Jwk(JwkError::OutOfMemory)
         | DocumentFault::Records(RecordFault::OutOfMemory)

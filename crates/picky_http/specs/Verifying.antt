@@ -4,9 +4,9 @@ use Rattle.picky_contract.specs.Refusals.{Table, the, need, named, done, ◌>>=�
 use Rattle.picky_base64.specs.Base64.{B64}
 use Rattle.picky_base64.specs.declared.Form.{Form}
 use Rattle.picky_base64.specs.declared.Form.TheVariants.{Url, Standard}
-use Rattle.picky_key.specs.declared.key.PublicKeyKind.{PublicKeyKind}
+use Rattle.picky_key_der.specs.declared.public.PublicKeyKind.{PublicKeyKind}
 use Rattle.picky_key.specs.declared.algorithm.SignatureAlgorithm.{SignatureAlgorithm}
-use Rattle.picky_key.specs.Family.{family_of, is_of_family}
+use Rattle.picky_key.specs.Family.{is_of_family}
 use Rattle.picky_key.specs.Signatures.{Relation, vouched_table}
 use Rattle.picky_http_request.specs.Answers.{Answer}
 use Rattle.picky_http.specs.declared.verifier.HttpSignatureVerifier.{HttpSignatureVerifier}
@@ -15,20 +15,47 @@ use Rattle.picky_http.specs.declared.verifier.Way.{Way}
 use Rattle.picky_http.specs.declared.verifier.Way.TheVariants as way
 use Rattle.picky_http.specs.Algorithms.{Algorithm, known, custom}
 use Rattle.picky_http.specs.Faults.{HttpFault, not_base64, not_yet_valid, expired, signature, missing_argument, incompatible}
-use Rattle.picky_http.specs.Lines.{Request, request_of, text_table}
+use Rattle.picky_http.specs.Lines.{Request, request_of, AreLines, text_table}
 use Rattle.picky_http.specs.Parts.{covered}
 use Rattle.picky_http.specs.Reading.{Reading, reading_of}
+use Rattle.picky_http.specs.Signing.{Line, signing_string}
 
 -- where the signed bytes come from: they are given, or a request answers their lines
 pub data Source : Type 0 where
   given_text : List ℕ → Source
   answers_of : Request → Source
 
+-- ---- in words
+
+-- an algorithm that is known is the verifier's, and of the key's family
+abbrev pub AlgorithmFits : PublicKeyKind → SignatureAlgorithm → Option Algorithm → Type 0
+AlgorithmFits key algorithm None = Unit {0}
+AlgorithmFits key algorithm (Some (custom text)) = Unit {0}
+AlgorithmFits key algorithm (Some (known a)) = (a ≡ algorithm) × IsTrue (is_of_family a key)
+
+-- with `expires` there is a moment, which is at most `expires` plus the leeway
+abbrev pub IsInForce : Option ℕ → ℕ → Option ℕ → Type 0
+IsInForce now leeway None = Unit {0}
+IsInForce now leeway (Some expires) = (moment : ℕ) × (now ≡ Some moment) × (moment ≤ expires + leeway)
+
+-- with `created` there is a moment, and `created` is at most the moment plus the leeway
+abbrev pub HasBegun : Option ℕ → ℕ → Option ℕ → Type 0
+HasBegun now leeway None = Unit {0}
+HasBegun now leeway (Some created) = (moment : ℕ) × (now ≡ Some moment) × (created ≤ moment + leeway)
+
+-- the signed bytes of a reading over a request: the signing string of the covered parts with their answers, in order
+pub record IsMessage (q : Request) (r : Reading) (message : List ℕ) : Type 0 where
+  pub lines : List Line
+  pub are_lines : AreLines (record { request = q; created = r.created; expires = r.expires }) (covered r.headers) lines
+  pub is : message ≡ signing_string lines
+
+-- ---- in order
+
 -- an algorithm that is known is the verifier's, and of the key's family
 abbrev pub algorithm_table : PublicKeyKind → SignatureAlgorithm → Option Algorithm → Table ⊤ HttpFault
 algorithm_table key algorithm None = done tt
 algorithm_table key algorithm (Some (custom text)) = done tt
-algorithm_table key algorithm (Some (known a)) = need ((a ≡ algorithm) × IsTrue (is_of_family a (family_of key))) (incompatible a)
+algorithm_table key algorithm (Some (known a)) = need ((a ≡ algorithm) × IsTrue (is_of_family a key)) (incompatible a)
 
 -- with `expires` there is a moment, which is at most `expires` plus the leeway
 abbrev pub expires_table : Option ℕ → ℕ → Option ℕ → Table ⊤ HttpFault

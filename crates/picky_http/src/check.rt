@@ -31,7 +31,7 @@ pub(crate) fn check_algorithm(
 {
     match named {
         Some(HttpSigAlgorithm::Known(value)) => {
-            if *value == algorithm && value.is_of_family(key.family()) {
+            if *value == algorithm && value.is_of_family(key) {
                 Ok(())
             } else {
                 Err(HttpSignatureError::IncompatibleAlgorithm { value: *value })

@@ -71,12 +71,15 @@ impl From<ProviderFault> for HttpSignatureError {
 }
 
 impl From<SignatureError> for HttpSignatureError {
-    ghost use Rattle.picky_http.specs.declared.error.HttpSignatureError.TheVariants.{Signature};
+    ghost use Rattle.picky_http.specs.Faults.{of_signature_error};
 
-    ghost from_gives = { λ source e. e ≡ Signature source };
+    ghost from_gives = { λ source e. e ≡ of_signature_error source };
 
     fn from(source: SignatureError) -> HttpSignatureError {
-        HttpSignatureError::Signature { source }
+        match source {
+            SignatureError::OutOfMemory => HttpSignatureError::OutOfMemory,
+            source => HttpSignatureError::Signature { source },
+        }
     }
 }
 

@@ -7,15 +7,6 @@ ghost use Rattle.picky_http.specs.Parts.{part_of, part_named, NamesParts};
 use std::alloc::{AllocError, Global};
 use std::fmt;
 
-/// The name of the request's method and target among what a signature covers.
-pub const REQUEST_TARGET_STR: &str = "(request-target)";
-
-/// The name of the moment at which the signature was made.
-pub const CREATED_STR: &str = "(created)";
-
-/// The name of the moment after which the signature isn't accepted.
-pub const EXPIRES_STR: &str = "(expires)";
-
 /// A part that a signature covers (section 2.1.6): a header of the request by its name, in ASCII lower case,
 /// or one of three special parts.
 #[derive(Debug, Drop, PartialEq, Eq, Hash)]
@@ -27,6 +18,15 @@ pub enum Header {
 }
 
 impl Header {
+    /// The name of the request's method and target among what a signature covers.
+    pub const REQUEST_TARGET_STR: &'static str = "(request-target)";
+
+    /// The name of the moment at which the signature was made.
+    pub const CREATED_STR: &'static str = "(created)";
+
+    /// The name of the moment after which the signature isn't accepted.
+    pub const EXPIRES_STR: &'static str = "(expires)";
+
     /// The part of the header with this name, in ASCII lower case, for a special text too. No memory is
     /// taken.
     pub fn new_name(mut name: String) -> Header
@@ -42,9 +42,9 @@ impl Header {
     {
         match self {
             Header::Name(name) => name.as_str(),
-            Header::RequestTarget => REQUEST_TARGET_STR,
-            Header::Created => CREATED_STR,
-            Header::Expires => EXPIRES_STR,
+            Header::RequestTarget => Header::REQUEST_TARGET_STR,
+            Header::Created => Header::CREATED_STR,
+            Header::Expires => Header::EXPIRES_STR,
         }
     }
 
@@ -53,11 +53,11 @@ impl Header {
     pub fn from_text(alloc: Global, s: &str) -> Result<Header, AllocError>
         ensures { IfOk result (λ h. part_of h ≡ part_named s.now) }
     {
-        if s == REQUEST_TARGET_STR {
+        if s == Header::REQUEST_TARGET_STR {
             Ok(Header::RequestTarget)
-        } else if s == CREATED_STR {
+        } else if s == Header::CREATED_STR {
             Ok(Header::Created)
-        } else if s == EXPIRES_STR {
+        } else if s == Header::EXPIRES_STR {
             Ok(Header::Expires)
         } else {
             let name = String::from_str(alloc, s)?;

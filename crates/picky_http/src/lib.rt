@@ -19,7 +19,7 @@ mod view;
 
 pub use algorithm::HttpSigAlgorithm;
 pub use error::HttpSignatureError;
-pub use header::{CREATED_STR, EXPIRES_STR, Header, REQUEST_TARGET_STR};
+pub use header::Header;
 pub use picky_http_request::{
     HeadFault, HttpRequest, HttpRequestError, NoRequest, RequestField, RequestHead, read_head,
 };

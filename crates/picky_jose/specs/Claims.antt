@@ -54,9 +54,13 @@ dated_table v d t = do
   started ← nbf_table d v.nbf (member (codes "nbf") t)
   exp_table d v.exp (member (codes "exp") t)
 
--- the dates of claims; without a date no claim is looked at
+-- what is said of a validator by which a claim must be there, and which has no date
+abbrev pub no_date : JwtFault
+no_date = invalid_validator (codes "current date is missing")
+
+-- the dates of claims; without a date none may be required, and no claim is looked at
 abbrev pub rows_at : Validator → Data → Option JwtDate → Table ⊤ JwtFault
-rows_at v t None = done tt
+rows_at v t None = need (IsTrue (can_judge None v.nbf v.exp)) no_date
 rows_at v t (Some d) = dated_table v d t
 
 abbrev pub dates_table : Validator → Data → Table ⊤ JwtFault
@@ -68,7 +72,7 @@ AreInTime v t = (dates_table v t).holds tt
 
 unfoldable pub claims_table : Validator → List ℕ → Table Data JwtFault
 claims_table v payload = do
-  can ← need (IsTrue (can_judge v.date v.nbf v.exp)) invalid_validator
+  can ← need (IsTrue (can_judge v.date v.nbf v.exp)) no_date
   t ← the (Tree payload) no_json
   free ← need (FloatFree t) has_float
   dates ← dates_table v t

@@ -10,20 +10,27 @@ use crate::date::{ClaimCheck, JwtDate, JwtValidator};
 use crate::error::JwtError;
 use serde_json::Value;
 
+// What is said of a validator by which a claim must be there, and which has no date.
+pub(crate) const NO_DATE: &str = "current date is missing";
+
 impl JwtValidator {
-    /// Checks the dates of claims that were read: without a date none is looked at. With one, an `nbf` or `exp`
-    /// that is ignored isn't looked at, one that is required is there, and one that is there is an integer in
-    /// `i64`, and the validator's date is at or after `nbf` less the leeway, and before `exp` plus the leeway.
-    /// Claims that aren't an object have neither. No memory is taken.
+    /// Checks the dates of claims that were read: without a date none may be required, and none is looked at. With
+    /// one, an `nbf` or `exp` that is ignored isn't looked at, one that is required is there, and one that is there is
+    /// an integer in `i64`, and the validator's date is at or after `nbf` less the leeway, and before `exp` plus the
+    /// leeway. Claims that aren't an object have neither. No memory is taken.
     ///
-    /// In order: of `nbf` `RequiredClaimMissing`, `InvalidRegisteredClaimType`, then `NotYetValid`; of `exp`
-    /// `RequiredClaimMissing`, `InvalidRegisteredClaimType`, then `Expired`.
+    /// In order: `InvalidValidator` where a claim is required and there is no date; of `nbf` `RequiredClaimMissing`,
+    /// `InvalidRegisteredClaimType`, then `NotYetValid`; of `exp` `RequiredClaimMissing`,
+    /// `InvalidRegisteredClaimType`, then `Expired`.
     pub fn check_dates(&self, claims: &Value) -> Result<(), JwtError>
         ensures first { Meets (λ u. u) jwt_fault result (dates_table self.now (view claims.now)) }
         ensures takes_none { IfErr result (λ e. jwt_fault e ≢ None) }
     {
         match self.date() {
-            None => Ok(()),
+            None if self.can_judge() => Ok(()),
+            None => Err(JwtError::InvalidValidator {
+                description: NO_DATE,
+            }),
             Some(date) => self.check_dates_at(date, claims),
         }
     }

@@ -100,12 +100,15 @@ impl From<ProviderFault> for JwsError {
 }
 
 impl From<SignatureError> for JwsError {
-    ghost use Rattle.picky_jose.specs.declared.error.JwsError.TheVariants.{Signature};
+    ghost use Rattle.picky_jose.specs.Faults.{jws_error_of};
 
-    ghost from_gives = { λ source e. e ≡ Signature source };
+    ghost from_gives = { λ source e. e ≡ jws_error_of source };
 
     fn from(source: SignatureError) -> JwsError {
-        JwsError::Signature { source }
+        match source {
+            SignatureError::OutOfMemory => JwsError::OutOfMemory,
+            source => JwsError::Signature { source },
+        }
     }
 }
 

@@ -112,12 +112,13 @@ impl<'repr> RawJws<'repr> {
 
     /// The token with its signature verified: the provider's relation holds of the key, the
     /// algorithm of `header.alg`, the bytes of the text before its last dot as they stand, and what
-    /// the text after it spells. The public field `signature` isn't looked at.
+    /// the text after it spells, or for `ES256`, `ES384`, `ES512` the DER of the pair of its two halves of
+    /// 32, 48, 66 bytes (RFC 7518, section 3.4). The public field `signature` isn't looked at.
     ///
     /// In order: `InvalidEncoding` where the text has no dot or ends with one; `Base64Decoding` where
     /// the text after its last dot isn't strict; `Signature` with `UnsupportedAlgorithm` for a name
-    /// without a signature algorithm, with `Ec` where an ECDSA signature isn't of its name's size,
-    /// with `BadSignature` where the relation doesn't hold.
+    /// without a signature algorithm, with `Ec` where an ECDSA signature hasn't the 64, 96 or 132 bytes of its
+    /// name, with `BadSignature` where the relation doesn't hold.
     pub fn verify<P: KeyProvider>(
         self,
         alloc: Global,

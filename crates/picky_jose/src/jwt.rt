@@ -5,6 +5,7 @@ ghost use Rattle.picky_contract.specs.Refusals.{Meets};
 ghost use Rattle.picky_jose.specs.Claims.{claims_table};
 ghost use Rattle.picky_jose.specs.Faults.{jwt_fault};
 
+use crate::claims::NO_DATE;
 use crate::date::JwtValidator;
 use crate::error::JwtError;
 use crate::header::JwsHeader;
@@ -87,7 +88,7 @@ fn checked_claims(
 {
     if !validator.can_judge() {
         return Err(JwtError::InvalidValidator {
-            description: "current date is missing",
+            description: NO_DATE,
         });
     }
     let Some(claims) = parse(alloc, payload)? else {

@@ -1,6 +1,6 @@
 //! Laws of tokens: each is the contract of a function without a body.
 ghost use Rattle.std.specs.Prelude.{◌≡◌, ◌↔◌, ℕ, List};
-ghost use Rattle.picky_key.specs.declared.key.PublicKeyKind.{PublicKeyKind};
+ghost use Rattle.picky_key_der.specs.declared.public.PublicKeyKind.{PublicKeyKind};
 ghost use Rattle.picky_key.specs.declared.algorithm.SignatureAlgorithm.TheVariants.{Ed25519};
 ghost use Rattle.picky_jwk.specs.declared.alg.JwsAlg.TheVariants.{EdDSA};
 ghost use Rattle.picky_jose.specs.Refusals.{Reading, TokenReading, signed_bytes};

@@ -1,18 +1,21 @@
 // Whether a text is signed.
-ghost use Rattle.std.specs.Prelude.{◌≡◌, IfOk, Some};
+ghost use Rattle.std.specs.Prelude.{◌≡◌, ◌<◌, ◌^◌, IfOk};
 ghost use Rattle.picky_contract.specs.Refusals.{Meets};
-ghost use Rattle.picky_key.specs.Signatures.{signature_fault};
+ghost use Rattle.picky_key_der.specs.Ecdsa.{ecdsa_pair, pair_value};
+ghost use Rattle.picky_key.specs.Signatures.{own_fault, vouched_table};
 ghost use Rattle.picky_jose.specs.Faults.{jws_fault};
-ghost use Rattle.picky_jose.specs.Signatures.{asked_by as asked_of, refusal, asked_table, vouched_rows, signed_table, EndsWith};
+ghost use Rattle.picky_jose.specs.Signatures.{asked_by as asked_of, pair_table, asked_table, vouched_rows, signed_table, EndsWith};
 
 use crate::cut::halves_of;
 use crate::error::JwsError;
 use picky_base64::Form;
+use picky_der::{DerError, to_vec};
 use picky_jwk::JwsAlg;
 use picky_key::{
-    HashAlgorithm, KeyProvider, ProviderFault, PublicKey, SignatureAlgorithm, SignatureError,
+    EcCurve, EcdsaSignatureValue, HashAlgorithm, KeyProvider, ProviderFault, PublicKey,
+    SignatureAlgorithm, SignatureError,
 };
-use std::alloc::Global;
+use std::alloc::{AllocError, Global};
 
 // What a name asks of a provider.
 #[derive(Clone, Copy, Debug)]
@@ -21,8 +24,8 @@ pub(crate) enum Asked {
     Nothing,
     // The signature as it stands, under this algorithm.
     Plain(SignatureAlgorithm),
-    // The two numbers of a signature of this size in bytes, under ECDSA with this hash.
-    Numbers(HashAlgorithm, usize),
+    // The pair of the two numbers of a signature, each of the size of the curve's field, under ECDSA with this hash.
+    Pair(HashAlgorithm, EcCurve),
 }
 
 fn asked_by(alg: JwsAlg) -> Asked
@@ -32,12 +35,77 @@ fn asked_by(alg: JwsAlg) -> Asked
         JwsAlg::RS256 => Asked::Plain(SignatureAlgorithm::RsaPkcs1v15(HashAlgorithm::SHA2_256)),
         JwsAlg::RS384 => Asked::Plain(SignatureAlgorithm::RsaPkcs1v15(HashAlgorithm::SHA2_384)),
         JwsAlg::RS512 => Asked::Plain(SignatureAlgorithm::RsaPkcs1v15(HashAlgorithm::SHA2_512)),
-        JwsAlg::ES256 => Asked::Numbers(HashAlgorithm::SHA2_256, 64),
-        JwsAlg::ES384 => Asked::Numbers(HashAlgorithm::SHA2_384, 96),
-        JwsAlg::ES512 => Asked::Numbers(HashAlgorithm::SHA2_512, 132),
+        JwsAlg::ES256 => Asked::Pair(HashAlgorithm::SHA2_256, EcCurve::NistP256),
+        JwsAlg::ES384 => Asked::Pair(HashAlgorithm::SHA2_384, EcCurve::NistP384),
+        JwsAlg::ES512 => Asked::Pair(HashAlgorithm::SHA2_512, EcCurve::NistP521),
         JwsAlg::EdDSA | JwsAlg::ED25519 => Asked::Plain(SignatureAlgorithm::Ed25519),
         _ => Asked::Nothing,
     }
+}
+
+// The DER of a pair of numbers in their shortest spellings.
+fn der_of(alloc: Global, pair: &EcdsaSignatureValue) -> Result<Vec<u8>, AllocError>
+    requires { ¬ (ecdsa_pair.Refused (pair_value pair.now)) }
+    ensures { IfOk result (λ v. v.items ≡ ecdsa_pair.encoding (pair_value pair.now)) }
+{
+    match to_vec(alloc, pair) {
+        Ok(bytes) => Ok(bytes),
+        Err(error) => match error {
+            DerError::OutOfMemory => Err(AllocError),
+            _ => unreachable!(),
+        },
+    }
+}
+
+// The DER of the pair whose numbers are the two halves, each of this size in bytes.
+fn pair_der(alloc: Global, size: usize, signature: &[u8]) -> Result<Vec<u8>, SignatureError>
+    requires some { 0 < size }
+    requires few { size < 2 ^ 63 }
+    ensures { Meets (λ v. v.items) own_fault result (pair_table size signature.now) }
+{
+    match EcdsaSignatureValue::from_fixed(alloc, signature, size) {
+        Ok(pair) => {
+            let bytes = der_of(alloc, &pair)?;
+            Ok(bytes)
+        }
+        Err(error) => Err(error),
+    }
+}
+
+// Whether the provider's relation holds.
+fn vouch_for<P: KeyProvider>(
+    alloc: Global,
+    provider: &P,
+    public_key: &PublicKey,
+    algorithm: SignatureAlgorithm,
+    signed: &[u8],
+    signature: &[u8],
+) -> Result<(), SignatureError>
+    ensures { Meets (λ u. u) own_fault result (vouched_table (P.signs provider.now) public_key.now algorithm signed.now signature.now) }
+{
+    match provider.verify(alloc, public_key, algorithm, signed, signature) {
+        Ok(true) => Ok(()),
+        Ok(false) => Err(SignatureError::BadSignature),
+        Err(ProviderFault::OutOfMemory) => Err(SignatureError::OutOfMemory),
+    }
+}
+
+// The same of the pair of the two halves of a signature.
+#[tactic(auto, unfolding(crate::specs::Signatures::asked_table))]
+fn vouch_for_pair<P: KeyProvider>(
+    alloc: Global,
+    provider: &P,
+    public_key: &PublicKey,
+    hash: HashAlgorithm,
+    curve: EcCurve,
+    signed: &[u8],
+    signature: &[u8],
+) -> Result<(), SignatureError>
+    ensures { Meets (λ u. u) own_fault result (asked_table (P.signs provider.now) public_key.now (Asked.Pair hash curve) signed.now signature.now) }
+{
+    let pair = pair_der(alloc, curve.field_bytes_size(), signature)?;
+    let algorithm = SignatureAlgorithm::Ecdsa(hash);
+    vouch_for(alloc, provider, public_key, algorithm, signed, &pair)
 }
 
 // Whether the provider vouches for the signature.
@@ -49,28 +117,17 @@ fn vouch<P: KeyProvider>(
     asked: Asked,
     signed: &[u8],
     signature: &[u8],
-) -> Result<Option<SignatureError>, ProviderFault>
-    ensures { IfOk result (λ e. Meets (λ u. u) (λ f. Some (signature_fault f)) (refusal e) (asked_table (P.signs provider.now) public_key.now asked signed.now signature.now)) }
+) -> Result<(), SignatureError>
+    ensures { Meets (λ u. u) own_fault result (asked_table (P.signs provider.now) public_key.now asked signed.now signature.now) }
 {
     match asked {
-        Asked::Nothing => Ok(Some(SignatureError::UnsupportedAlgorithm)),
-        Asked::Plain(algorithm) => {
-            if provider.verify(alloc, public_key, algorithm, signed, signature)? {
-                Ok(None)
-            } else {
-                Ok(Some(SignatureError::BadSignature))
-            }
-        }
-        Asked::Numbers(_, size) => {
-            if signature.len() == size {
-                Ok(Some(SignatureError::BadSignature))
-            } else {
-                Ok(Some(SignatureError::Ec {
-                    expected: size,
-                    got: signature.len(),
-                }))
-            }
-        }
+        Asked::Nothing => Err(SignatureError::UnsupportedAlgorithm),
+        Asked::Plain(algorithm) => vouch_for(
+            alloc, provider, public_key, algorithm, signed, signature,
+        ),
+        Asked::Pair(hash, curve) => vouch_for_pair(
+            alloc, provider, public_key, hash, curve, signed, signature,
+        ),
     }
 }
 
@@ -86,9 +143,9 @@ fn check_vouched<P: KeyProvider>(
     ensures { Meets (λ u. u) jws_fault result (vouched_rows (P.signs provider.now) public_key.now alg signed.now signature.now) }
 {
     let asked = asked_by(alg);
-    match vouch(alloc, provider, public_key, asked, signed, signature)? {
-        None => Ok(()),
-        Some(source) => Err(JwsError::from(source)),
+    match vouch(alloc, provider, public_key, asked, signed, signature) {
+        Ok(()) => Ok(()),
+        Err(source) => Err(JwsError::from(source)),
     }
 }
 

@@ -3,10 +3,10 @@ use Rattle.std.specs.Prelude.{◌≡◌, ℕ, List, length, Option, Some, None}
 use Rattle.picky_contract.specs.Refusals.{Table, the, need, done, ◌>>=◌}
 use Rattle.picky_base64.specs.Base64.{B64}
 use Rattle.picky_base64.specs.declared.Form.TheVariants.{Url}
-use Rattle.picky_key.specs.declared.key.PublicKeyKind.{PublicKeyKind}
-use Rattle.picky_key.specs.declared.key.PublicKeyKind.TheVariants.{Ed}
-use Rattle.picky_key.specs.declared.algorithm.EdAlgorithm.{EdAlgorithm}
-use Rattle.picky_key.specs.declared.algorithm.EdAlgorithm.TheVariants as key
+use Rattle.picky_key_der.specs.declared.public.PublicKeyKind.{PublicKeyKind}
+use Rattle.picky_key_der.specs.declared.public.PublicKeyKind.TheVariants.{Ed}
+use Rattle.picky_key_der.specs.declared.algorithm.EdAlgorithm.{EdAlgorithm}
+use Rattle.picky_key_der.specs.declared.algorithm.EdAlgorithm.TheVariants as key
 use Rattle.picky_jwk.specs.declared.jwk.JwkEdPublicKeyAlgorithm.{JwkEdPublicKeyAlgorithm}
 use Rattle.picky_jwk.specs.declared.jwk.JwkEdPublicKeyAlgorithm.TheVariants.{Ed25519}
 use Rattle.picky_jwk.specs.declared.error.JwkError.{JwkError}

@@ -1,6 +1,6 @@
 //! Laws of keys and sets: each is the contract of a function without a body.
 ghost use Rattle.std.specs.Prelude.{◌≡◌, ℕ, List};
-ghost use Rattle.picky_key.specs.declared.key.PublicKeyKind.{PublicKeyKind};
+ghost use Rattle.picky_key_der.specs.declared.public.PublicKeyKind.{PublicKeyKind};
 ghost use Rattle.picky_jwk.specs.Jwk.{Jwk, KeyType};
 ghost use Rattle.picky_jwk.specs.Keys.{FirstKeysOf};
 ghost use Rattle.picky_jwk.specs.Refusals.{key_table};

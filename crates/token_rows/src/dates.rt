@@ -9,8 +9,10 @@
 //     jwt.validate SECONDS LEEWAY CLAIMS         `Ok`, or the refusal, by a lenient validator
 //     jwt.validate_by CHECKS CLAIMS              the same by another: `none`, `undated` (both claims required, no date), or
 //                                                `strict`, `nbf` (that alone required), `exp` (that alone looked at), at 100
+//     jwt.check_by CHECKS CLAIMS                 the same of claims that were read already
 use anyhow::{Context, Result, bail};
 use picky_jose::{Jws, JwsHeader, JwtDate, JwtSig, JwtValidator};
+use picky_json::parse;
 use picky_jwk::JwsAlg;
 use rows::{Answer, Words};
 use std::alloc::Global;
@@ -55,6 +57,7 @@ pub(crate) fn answer(alloc: Global, call: &str, words: &mut Words<'_>) -> Result
     match call {
         "validate" => validate(alloc, words),
         "validate_by" => validate_by(alloc, words),
+        "check_by" => check_by(alloc, words),
         _ => bail!("no such call"),
     }
 }
@@ -88,6 +91,15 @@ fn validator(name: &str) -> Result<JwtValidator> {
 fn validate_by(alloc: Global, words: &mut Words<'_>) -> Result<Answer> {
     let validator = validator(words.next())?;
     validated(alloc, validator, words)
+}
+
+fn check_by(alloc: Global, words: &mut Words<'_>) -> Result<Answer> {
+    let validator = validator(words.next())?;
+    let claims = parse(alloc, words.rest().as_bytes())?.context("no JSON")?;
+    match validator.check_dates(&claims) {
+        Ok(()) => Ok(Answer::Word("Ok")),
+        Err(error) => Answer::debug(alloc, &error),
+    }
 }
 
 fn validated(alloc: Global, validator: JwtValidator, words: &mut Words<'_>) -> Result<Answer> {

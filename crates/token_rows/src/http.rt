@@ -12,7 +12,8 @@ use picky_base64::Form;
 use picky_http::{
     HttpRequest, HttpSignature, HttpSignatureVerifier, NoRequest, RequestHead, read_head,
 };
-use picky_key::{EdAlgorithm, PublicKey, Recorded, SignatureAlgorithm};
+use picky_key::{EdAlgorithm, PublicKey, SignatureAlgorithm};
+use picky_records::Recorded;
 use rows::{Answer, Words};
 use std::alloc::Global;
 

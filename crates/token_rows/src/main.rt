@@ -7,6 +7,7 @@ mod http;
 mod json;
 mod keys;
 mod messages;
+mod pairs;
 mod records;
 mod sets;
 mod signatures;

@@ -2,7 +2,7 @@
 //
 //     message.key BadSize EXPECTED GOT
 //     message.signature UnsupportedAlgorithm | BadSignature | Ec EXPECTED GOT
-//     message.records OutOfMemory | Unbuilt
+//     message.records OutOfMemory | BadLine LINE | Family LINE | Conflict LINE
 //     message.jwk Base64Decoding | InvalidEdPublicKey | OutOfMemory | Unbuilt
 //     message.jws Json | Signature SIGNATURE.. | InvalidEncoding INPUT | Base64Decoding | Float | OutOfMemory
 //     message.jwt Jws JWS.. | Json | InvalidRegisteredClaimType CLAIM | RequiredClaimMissing CLAIM
@@ -11,7 +11,8 @@ use crate::dates::{date, seconds};
 use anyhow::{Result, bail};
 use picky_jose::{JwsError, JwtError};
 use picky_jwk::JwkError;
-use picky_key::{KeyError, RecordFault, SignatureError};
+use picky_key::{KeyError, SignatureError};
+use picky_records::RecordFault;
 use rows::{Answer, Words};
 use std::alloc::Global;
 
@@ -54,7 +55,15 @@ fn signature(words: &mut Words<'_>) -> Result<SignatureError> {
 fn records(words: &mut Words<'_>) -> Result<RecordFault> {
     match words.next() {
         "OutOfMemory" => Ok(RecordFault::OutOfMemory),
-        "Unbuilt" => Ok(RecordFault::Unbuilt),
+        "BadLine" => Ok(RecordFault::BadLine {
+            line: words.parsed()?,
+        }),
+        "Family" => Ok(RecordFault::Family {
+            line: words.parsed()?,
+        }),
+        "Conflict" => Ok(RecordFault::Conflict {
+            line: words.parsed()?,
+        }),
         _ => bail!("no such error"),
     }
 }

@@ -4,7 +4,8 @@
 //     records.verify KEY ALGORITHM MESSAGE BYTES RECORDS      whether they record it; MESSAGE is a word as it stands
 use crate::keys::key;
 use anyhow::{Result, bail};
-use picky_key::{HashAlgorithm, KeyProvider, Recorded, SignatureAlgorithm};
+use picky_key::{HashAlgorithm, KeyProvider, SignatureAlgorithm};
+use picky_records::Recorded;
 use rows::{Answer, Words};
 use std::alloc::Global;
 

@@ -11,11 +11,12 @@ use std::borrow::CowStr;
 // A token that is read, whose text and name are then those of the row.
 const TOKEN: &str = "eyJhbGciOiJFZERTQSIsImtpZCI6ImsxIn0.eyJleHAiOjEwMH0.AAAA";
 
-fn algorithm(name: &str) -> Result<JwsAlg> {
+pub(crate) fn algorithm(name: &str) -> Result<JwsAlg> {
     match name {
         "HS256" => Ok(JwsAlg::HS256),
         "RS256" => Ok(JwsAlg::RS256),
         "ES256" => Ok(JwsAlg::ES256),
+        "ES384" => Ok(JwsAlg::ES384),
         "ES512" => Ok(JwsAlg::ES512),
         "EdDSA" => Ok(JwsAlg::EdDSA),
         "ED25519" => Ok(JwsAlg::ED25519),
@@ -23,7 +24,7 @@ fn algorithm(name: &str) -> Result<JwsAlg> {
     }
 }
 
-fn token<'a>(alloc: Global, alg: JwsAlg, text: &'a str) -> Result<RawJws<'a>> {
+pub(crate) fn token<'a>(alloc: Global, alg: JwsAlg, text: &'a str) -> Result<RawJws<'a>> {
     let mut token = RawJws::decode(alloc, CowStr::Borrowed(TOKEN))?;
     token.compact_repr = CowStr::Borrowed(text);
     token.header = JwsHeader { alg, kid: None };

@@ -5,7 +5,8 @@
 //     jws.kid TEXT                           the key's name, or `none`
 //     jws.copy TEXT                          the text of a copy
 //     jws.verify ALG KEY TEXT RECORDS        `Ok`; any text under any name, by a provider of these records
-use crate::signatures;
+//     jws.verify_p256 ALG TEXT BYTES         `Ok`; under a P-256 key, by a provider of this one ECDSA signature with SHA-256
+use crate::{pairs, signatures};
 use anyhow::{Result, bail};
 use picky_jose::RawJws;
 use rows::{Answer, Words};
@@ -15,6 +16,7 @@ use std::borrow::CowStr;
 pub(crate) fn answer(alloc: Global, call: &str, words: &mut Words<'_>) -> Result<Answer> {
     match call {
         "verify" => signatures::verify(alloc, words),
+        "verify_p256" => pairs::verify(alloc, words),
         "decode" | "payload" | "kid" | "copy" => read(alloc, call, words.rest()),
         _ => bail!("no such call"),
     }

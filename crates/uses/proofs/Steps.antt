@@ -5,7 +5,7 @@ use Rattle.serde_json.specs.Data.{Data}
 use Rattle.picky_contract.specs.Refusals.{named, ◌>>=◌}
 use Rattle.picky_contract.specs.laws.Tables.{step_refuses, up}
 use Rattle.picky_json.specs.Tree.{Tree, FloatFree, integer, member}
-use Rattle.picky_key.specs.declared.key.PublicKeyKind.{PublicKeyKind}
+use Rattle.picky_key_der.specs.declared.public.PublicKeyKind.{PublicKeyKind}
 use Rattle.picky_key.specs.Signatures.{Relation}
 use Rattle.picky_jwk.specs.declared.alg.JwsAlg.{JwsAlg}
 use Rattle.picky_jose.specs.declared.date.JwtDate.{JwtDate}

@@ -3,7 +3,7 @@ use Rattle.std.specs.Prelude.{◌≡◌, ℕ, ℤ, List, codes, Some, option_and
 use Rattle.serde_json.specs.Data.{Data}
 use Rattle.picky_contract.specs.Refusals.{Table, named, ◌>>=◌}
 use Rattle.picky_json.specs.Tree.{Tree, FloatFree, member, integer}
-use Rattle.picky_key.specs.declared.key.PublicKeyKind.{PublicKeyKind}
+use Rattle.picky_key_der.specs.declared.public.PublicKeyKind.{PublicKeyKind}
 use Rattle.picky_key.specs.declared.algorithm.SignatureAlgorithm.TheVariants.{Ed25519}
 use Rattle.picky_key.specs.Signatures.{Relation}
 use Rattle.picky_jose.specs.declared.date.JwtDate.{JwtDate}

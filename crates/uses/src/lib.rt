@@ -4,12 +4,13 @@
 ghost use Rattle.std.specs.Prelude.{◌≡◌, IfOk};
 ghost use Rattle.serde_json.specs.View.{view};
 ghost use Rattle.picky_contract.specs.Refusals.{Meets};
-ghost use Rattle.picky_key.specs.Records.{Signs};
+ghost use Rattle.picky_records.specs.Meanings.{signs_by};
 ghost use Rattle.picky_jose.specs.Faults.{jwt_fault};
 ghost use Rattle.uses.specs.Accepted.{Accepted, accepted_table, date_at};
 
 use picky_jose::{JwtDate, JwtError, JwtSig, JwtValidator, RawJws};
-use picky_key::{KeyProvider, PublicKey, Recorded};
+use picky_key::{KeyProvider, PublicKey};
+use picky_records::Recorded;
 use serde_json::Value;
 use std::alloc::Global;
 use std::borrow::CowStr;
@@ -43,8 +44,8 @@ pub fn recorded_claims(
     key: &PublicKey,
     now: i64,
 ) -> Result<Value, JwtError>
-    ensures found { IfOk result (λ claims. Accepted (Signs records.now) key.now (date_at now) text.now (view claims)) }
-    ensures first { Meets view jwt_fault result (accepted_table (Signs records.now) key.now (date_at now) text.now) }
+    ensures found { IfOk result (λ claims. Accepted (signs_by records.now.lines.items) key.now (date_at now) text.now (view claims)) }
+    ensures first { Meets view jwt_fault result (accepted_table (signs_by records.now.lines.items) key.now (date_at now) text.now) }
 {
     accepted_claims(alloc, text, records, key, now)
 }

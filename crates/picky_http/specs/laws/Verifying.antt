@@ -1,22 +1,22 @@
 -- The rows of a signature say one thing, and a verifier with a key and a request answers them.
-use Rattle.std.proofs.Common.{◌≡◌, ◌≤◌, ◌+◌, ℕ, List, [], ◌∷◌, Option, Some, None, Ok, Err, refl, sym, ◌∙◌, subst, inl, inr}
+use Rattle.std.proofs.Common.{◌≡◌, ◌≤◌, ◌+◌, ℕ, List, [], ◌∷◌, Option, Some, None, Ok, Err, refl, sym, ap, ◌∙◌, subst, inl, inr}
 use Rattle.std.specs.Prelude.{IsTrue, codes}
 use Rattle.picky_contract.specs.Refusals.{Table, the, ◌>>=◌}
 use Rattle.picky_contract.specs.laws.Tables.{Exact, the_exact, need_exact, done_exact, then_exact, named_exact, Leads, leads_itself, then_leads}
 use Rattle.picky_base64.specs.Base64.{B64}
-use Rattle.picky_key.specs.declared.key.PublicKeyKind.{PublicKeyKind}
+use Rattle.picky_key_der.specs.declared.public.PublicKeyKind.{PublicKeyKind}
 use Rattle.picky_key.specs.declared.algorithm.SignatureAlgorithm.{SignatureAlgorithm}
-use Rattle.picky_key.specs.Family.{family_of, is_of_family}
+use Rattle.picky_key.specs.Family.{is_of_family}
 use Rattle.picky_key.specs.Signatures.{Relation, vouched_table, bad}
 use Rattle.picky_http_request.specs.Answers.{Answer}
 use Rattle.picky_http.specs.Algorithms.{Algorithm, known, custom}
 use Rattle.picky_http.specs.Faults.{not_base64, not_yet_valid, expired, signature, missing_argument, incompatible}
-use Rattle.picky_http.specs.Lines.{Asked, request_of, Said, part_answer, lines_table, text_table}
+use Rattle.picky_http.specs.Lines.{Asked, Request, request_of, Said, part_answer, AreLines, lines_table, text_table}
 use Rattle.picky_http.specs.Parts.{covered}
 use Rattle.picky_http.specs.Reading.{Reading}
-use Rattle.picky_http.specs.Signing.{Part, signing_string}
+use Rattle.picky_http.specs.Signing.{Part, Line, signing_string}
 use Rattle.picky_http.specs.Steps.{given}
-use Rattle.picky_http.specs.Verifying.{Source, given_text, answers_of, algorithm_table, expires_table, created_table, message_table, form_of, signed_table, rows_table, checked_table, Using, Origin, asked_of, source_by, verify_table}
+use Rattle.picky_http.specs.Verifying.{Source, given_text, answers_of, AlgorithmFits, IsInForce, HasBegun, IsMessage, algorithm_table, expires_table, created_table, message_table, form_of, signed_table, rows_table, checked_table, Using, Origin, asked_of, source_by, verify_table}
 
 -- ---- the signing string
 
@@ -39,12 +39,68 @@ message_exact : (source : Source) (r : Reading) → Exact (message_table source 
 message_exact (given_text bytes) r = done_exact bytes
 message_exact (answers_of q) r = text_exact (record { request = q; created = r.created; expires = r.expires }) (covered r.headers)
 
+-- the lines that the table has are those of the parts, and the other way round
+given_holds : (said : Said) (text : List ℕ) → said ≡ Ok text → (given said).holds text
+given_holds said text e = subst (λ (s : Said). (given s).holds text) (sym e) refl
+
+given_says : (said : Said) (text : List ℕ) → (given said).holds text → said ≡ Ok text
+given_says (Ok said) text h = ap Ok (sym h)
+given_says (Err fault) text h = absurd h
+
+to_lines : (asked : Asked) (parts : List Part) (lines : List Line) → (lines_table asked parts).holds lines → AreLines asked parts lines
+to_lines asked [] lines h = subst (λ (ls : List Line). AreLines asked [] ls) (sym h) tt
+to_lines asked (part ∷ parts) lines (text, said, (rest, held, is)) =
+    subst (λ (ls : List Line). AreLines asked (part ∷ parts) ls) (sym is) ((refl, given_says (part_answer asked part) text said), to_lines asked parts rest held)
+
+from_lines : (asked : Asked) (parts : List Part) (lines : List Line) → AreLines asked parts lines → (lines_table asked parts).holds lines
+from_lines asked [] [] h = refl
+from_lines asked [] (l ∷ ls) h = absurd h
+from_lines asked (p ∷ ps) [] h = absurd h
+from_lines asked (p ∷ ps) (l ∷ ls) h = (l.1, given_holds (part_answer asked p) l.1 h.0.1, (ls, from_lines asked ps ls h.1, λ i. (h.0.0 i, l.1) ∷ ls))
+
+-- a request's signed bytes are the signing string of its lines
+pub to_message : (q : Request) (r : Reading) (message : List ℕ) → (message_table (answers_of q) r).holds message → IsMessage q r message
+unfolding text_table
+to_message q r message (lines, held, is) = record { lines = lines; are_lines = to_lines _ _ lines held; is = is }
+
+pub from_message : (q : Request) (r : Reading) (message : List ℕ) → IsMessage q r message → (message_table (answers_of q) r).holds message
+unfolding text_table
+from_message q r message m = (m.lines, from_lines _ _ m.lines m.are_lines, m.is)
+
+-- ---- the rows in words
+
+pub to_fits : (key : PublicKeyKind) (algorithm : SignatureAlgorithm) (o : Option Algorithm) → (algorithm_table key algorithm o).holds tt → AlgorithmFits key algorithm o
+to_fits key algorithm None h = tt
+to_fits key algorithm (Some (custom text)) h = tt
+to_fits key algorithm (Some (known a)) h = h
+
+pub from_fits : (key : PublicKeyKind) (algorithm : SignatureAlgorithm) (o : Option Algorithm) → AlgorithmFits key algorithm o → (algorithm_table key algorithm o).holds tt
+from_fits key algorithm None h = refl
+from_fits key algorithm (Some (custom text)) h = refl
+from_fits key algorithm (Some (known a)) h = h
+
+pub to_force : (now : Option ℕ) (leeway : ℕ) (o : Option ℕ) → (expires_table now leeway o).holds tt → IsInForce now leeway o
+to_force now leeway None h = tt
+to_force now leeway (Some expires) h = h
+
+pub from_force : (now : Option ℕ) (leeway : ℕ) (o : Option ℕ) → IsInForce now leeway o → (expires_table now leeway o).holds tt
+from_force now leeway None h = refl
+from_force now leeway (Some expires) h = h
+
+pub to_begun : (now : Option ℕ) (leeway : ℕ) (o : Option ℕ) → (created_table now leeway o).holds tt → HasBegun now leeway o
+to_begun now leeway None h = tt
+to_begun now leeway (Some created) h = h
+
+pub from_begun : (now : Option ℕ) (leeway : ℕ) (o : Option ℕ) → HasBegun now leeway o → (created_table now leeway o).holds tt
+from_begun now leeway None h = refl
+from_begun now leeway (Some created) h = h
+
 -- ---- the rows
 
 algorithm_exact : (key : PublicKeyKind) (algorithm : SignatureAlgorithm) (o : Option Algorithm) → Exact (algorithm_table key algorithm o)
 algorithm_exact key algorithm None = done_exact tt
 algorithm_exact key algorithm (Some (custom text)) = done_exact tt
-algorithm_exact key algorithm (Some (known a)) = need_exact ((a ≡ algorithm) × IsTrue (is_of_family a (family_of key))) (incompatible a)
+algorithm_exact key algorithm (Some (known a)) = need_exact ((a ≡ algorithm) × IsTrue (is_of_family a key)) (incompatible a)
 
 expires_exact : (now : Option ℕ) (leeway : ℕ) (o : Option ℕ) → Exact (expires_table now leeway o)
 expires_exact now leeway None = done_exact tt

@@ -1,6 +1,6 @@
 -- The rows of dates say one thing.
 use Rattle.std.proofs.Common.{Option, Some, None, refl}
-use Rattle.std.specs.Prelude.{⊤, codes}
+use Rattle.std.specs.Prelude.{⊤, codes, IsTrue}
 use Rattle.serde_json.specs.Data.{Data}
 use Rattle.picky_contract.specs.Refusals.{Table, need, done}
 use Rattle.picky_contract.specs.laws.Tables.{Exact, Single, the_exact, need_exact, done_exact, then_exact}
@@ -8,10 +8,10 @@ use Rattle.picky_json.specs.Tree.{member}
 use Rattle.picky_jose.specs.declared.date.JwtDate.{JwtDate}
 use Rattle.picky_jose.specs.declared.date.ClaimCheck.{ClaimCheck}
 use Rattle.picky_jose.specs.declared.date.ClaimCheck.TheVariants.{Ignored, Optional, Required}
-use Rattle.picky_jose.specs.Claims.{IsInteger, IsThere, start_table, end_table, nbf_table, exp_table, dated_table, rows_at, dates_table}
+use Rattle.picky_jose.specs.Claims.{IsInteger, IsThere, start_table, end_table, nbf_table, exp_table, dated_table, no_date, rows_at, dates_table}
 use Rattle.picky_jose.specs.Dates.{IsAtOrAfterStart, IsBeforeEnd}
 use Rattle.picky_jose.specs.Faults.{JwtFault, no_integer, missing, not_yet_valid, expired}
-use Rattle.picky_jose.specs.Validator.{Validator}
+use Rattle.picky_jose.specs.Validator.{Validator, can_judge}
 
 module _ (d : JwtDate) where
   start_exact : (o : Option Data) → Exact (start_table d o)
@@ -37,7 +37,7 @@ module _ (d : JwtDate) where
   dated_exact v t = then_exact _ _ (nbf_exact v.nbf (member (codes "nbf") t)) (λ _. exp_exact v.exp (member (codes "exp") t))
 
 rows_exact : (v : Validator) (t : Data) (o : Option JwtDate) → Exact (rows_at v t o)
-rows_exact v t None = done_exact tt
+rows_exact v t None = need_exact (IsTrue (can_judge None v.nbf v.exp)) no_date
 rows_exact v t (Some d) = dated_exact d v t
 
 pub dates_exact : (v : Validator) (t : Data) → Exact (dates_table v t)

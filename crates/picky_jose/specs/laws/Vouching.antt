@@ -7,7 +7,7 @@ use Rattle.picky_base64.specs.Base64.{B64}
 use Rattle.picky_base64.specs.declared.Form.TheVariants.{Url}
 use Rattle.picky_base64.specs.laws.Encoding.{once}
 use Rattle.picky_key.specs.Signatures.{Relation, bad}
-use Rattle.picky_key.specs.declared.key.PublicKeyKind.{PublicKeyKind}
+use Rattle.picky_key_der.specs.declared.public.PublicKeyKind.{PublicKeyKind}
 use Rattle.picky_key.specs.declared.algorithm.SignatureAlgorithm.TheVariants.{Ed25519}
 use Rattle.picky_jwk.specs.declared.alg.JwsAlg.{JwsAlg}
 use Rattle.picky_jwk.specs.declared.alg.JwsAlg.TheVariants.{EdDSA}

@@ -8,8 +8,8 @@ use Rattle.picky_base64.specs.Base64.{B64}
 use Rattle.picky_base64.specs.declared.Form.TheVariants.{Url}
 use Rattle.picky_base64.specs.laws.Encoding.{once}
 use Rattle.picky_json.specs.laws.Trees.{tree_is_determined}
-use Rattle.picky_key.specs.declared.key.PublicKeyKind.{PublicKeyKind}
-use Rattle.picky_key.specs.declared.key.PublicKeyKind.TheVariants.{Ed}
+use Rattle.picky_key_der.specs.declared.public.PublicKeyKind.{PublicKeyKind}
+use Rattle.picky_key_der.specs.declared.public.PublicKeyKind.TheVariants.{Ed}
 use Rattle.picky_jwk.specs.declared.jwk.JwkEdPublicKeyAlgorithm.TheVariants.{Ed25519}
 use Rattle.picky_jwk.specs.Jwk.{Jwk, KeyType, ed}
 use Rattle.picky_jwk.specs.Keys.{FirstKeyOf, ItemsOf, FirstKeysOf}

@@ -13,4 +13,4 @@ returns-in-Err c = step_refuses (bad document.Records) (records_table c.args.doc
 
 pub returns : goal.returns
 unfolding decision
-returns c = then_meets admission_of why_of c.decide_from_keys.result (named (bad document.Records) (records_table c.args.documents.now.records)) (keys_decision (admit_of c.args.words) c.args.documents.now) c.in-Ok.provider c.in-Ok.ensures c.decide_from_keys.ensures
+returns c = then_meets admission_of why_of c.decide_from_keys.result (named (bad document.Records) (records_table c.args.documents.now.records)) (keys_decision (admit_of c.args.words) c.args.documents.now) c.in-Ok.provider.lines.items c.in-Ok.ensures c.decide_from_keys.ensures

@@ -9,8 +9,8 @@ use Rattle.picky_gate.proofs.documents.decide_from_keys.Goals as goal
 
 pub returns-in-Err : goal.returns-in-Err
 unfolding keys_decision
-returns-in-Err c = step_refuses (bad document.Keys) (keys_table c.args.documents.now.keys) (request_decision (admit_of c.args.words) c.args.documents.now c.args.provider.now) (flaw_of c.in-Err.fault) c.in-Err.ensures
+returns-in-Err c = step_refuses (bad document.Keys) (keys_table c.args.documents.now.keys) (request_decision (admit_of c.args.words) c.args.documents.now c.args.provider.now.lines.items) (flaw_of c.in-Err.fault) c.in-Err.ensures
 
 pub returns : goal.returns
 unfolding keys_decision
-returns c = then_meets admission_of why_of c.decide_from_request.result (named (bad document.Keys) (keys_table c.args.documents.now.keys)) (request_decision (admit_of c.args.words) c.args.documents.now c.args.provider.now) c.in-Ok.ring c.in-Ok.ensures c.decide_from_request.ensures
+returns c = then_meets admission_of why_of c.decide_from_request.result (named (bad document.Keys) (keys_table c.args.documents.now.keys)) (request_decision (admit_of c.args.words) c.args.documents.now c.args.provider.now.lines.items) c.in-Ok.ring c.in-Ok.ensures c.decide_from_request.ensures

@@ -15,19 +15,19 @@ use Rattle.picky_gate.proofs.documents.decide_from_request.Goals as goal
 pub returns-in-Err : goal.returns-in-Err
 unfolding request_decision
 returns-in-Err c =
-    step_refuses (bad document.Request) (request_table c.args.documents.now.request) (λ (head : Option Head). text_decision (admit_of c.args.words) c.args.provider.now c.args.ring.now (asked_of head)) (flaw_of c.in-Err.fault) c.in-Err.ensures
+    step_refuses (bad document.Request) (request_table c.args.documents.now.request) (λ (head : Option Head). text_decision (admit_of c.args.words) c.args.provider.now.lines.items c.args.ring.now (asked_of head)) (flaw_of c.in-Err.fault) c.in-Err.ensures
 
 pub returns-in-None : goal.returns-in-None
 unfolding request_decision
 returns-in-None c =
     let none = rw c.in-None.is at c.in-Ok.ensures in
-    then_meets admission_of why_of c.decide_text.result (named (bad document.Request) (request_table c.args.documents.now.request)) (λ (head : Option Head). text_decision (admit_of c.args.words) c.args.provider.now c.args.ring.now (asked_of head))
+    then_meets admission_of why_of c.decide_text.result (named (bad document.Request) (request_table c.args.documents.now.request)) (λ (head : Option Head). text_decision (admit_of c.args.words) c.args.provider.now.lines.items c.args.ring.now (asked_of head))
     None none c.decide_text.ensures
 
 pub returns : goal.returns
 unfolding request_decision
 returns c =
     let some = rw c.in-Some.is at c.in-Ok.ensures in
-    then_meets admission_of why_of c.decide_text-in-Some.result (named (bad document.Request) (request_table c.args.documents.now.request)) (λ (head : Option Head). text_decision (admit_of c.args.words) c.args.provider.now c.args.ring.now (asked_of head))
+    then_meets admission_of why_of c.decide_text-in-Some.result (named (bad document.Request) (request_table c.args.documents.now.request)) (λ (head : Option Head). text_decision (admit_of c.args.words) c.args.provider.now.lines.items c.args.ring.now (asked_of head))
     (Some (head_view c.in-Some.head)) some
-    (subst (λ (q : Request). Meets admission_of why_of c.decide_text-in-Some.result (text_decision (admit_of c.args.words) c.args.provider.now c.args.ring.now q)) (answers_same c.in-Some.head) c.decide_text-in-Some.ensures)
+    (subst (λ (q : Request). Meets admission_of why_of c.decide_text-in-Some.result (text_decision (admit_of c.args.words) c.args.provider.now.lines.items c.args.ring.now q)) (answers_same c.in-Some.head) c.decide_text-in-Some.ensures)

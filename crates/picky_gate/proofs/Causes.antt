@@ -1,0 +1,43 @@
+-- An error that isn't want of memory, and the refusal that holds it.
+use Rattle.std.proofs.Common.{◌≡◌, Some, None, MatchOption, option_map, refl}
+use Rattle.picky_http.specs.declared.error.HttpSignatureError.{HttpSignatureError}
+use Rattle.picky_http.specs.declared.error.HttpSignatureError.TheVariants as http
+use Rattle.picky_http.specs.Faults.{http_fault}
+use Rattle.picky_jose.specs.declared.error.JwsError.{JwsError}
+use Rattle.picky_jose.specs.declared.error.JwsError.TheVariants as of_jws
+use Rattle.picky_jose.specs.declared.error.JwtError.{JwtError}
+use Rattle.picky_jose.specs.declared.error.JwtError.TheVariants as jwt
+use Rattle.picky_jose.specs.Faults.{jws_fault, jwt_fault, jws}
+use Rattle.picky_gate.specs.declared.admission.Refusal.TheVariants as refusal
+use Rattle.picky_gate.specs.Refusals.{cause_of, of_http, of_token}
+
+pub http_held : (e : HttpSignatureError) → ¬ (e ≡ http.OutOfMemory) → cause_of (refusal.Http e) ≡ option_map of_http (http_fault e)
+http_held http.Base64Decoding some = refl
+http_held (http.NotYetValid created now) some = refl
+http_held (http.Expired not_after now) some = refl
+http_held (http.Signature source) some = refl
+http_held (http.SigningStringGeneration source) some = refl
+http_held (http.MissingBuilderArgument arg) some = refl
+http_held (http.MissingRequiredParameter parameter) some = refl
+http_held (http.InvalidParameter parameter) some = refl
+http_held (http.IncompatibleAlgorithm value) some = refl
+http_held http.OutOfMemory some = absurd (some refl)
+
+pub jwt_held : (e : JwtError) → ¬ (e ≡ jwt.OutOfMemory) → MatchOption (jwt_fault e) (refusal.Token e ≡ refusal.OutOfMemory) (λ f. cause_of (refusal.Token e) ≡ Some (of_token f))
+jwt_held (jwt.Jws source) some = refl
+jwt_held jwt.Json some = refl
+jwt_held (jwt.InvalidRegisteredClaimType claim) some = refl
+jwt_held (jwt.RequiredClaimMissing claim) some = refl
+jwt_held (jwt.NotYetValid not_before now) some = refl
+jwt_held (jwt.Expired not_after now) some = refl
+jwt_held (jwt.InvalidValidator description) some = refl
+jwt_held jwt.Float some = refl
+jwt_held jwt.OutOfMemory some = absurd (some refl)
+
+pub jws_held : (e : JwsError) → ¬ (e ≡ of_jws.OutOfMemory) → MatchOption (jws_fault e) (refusal.Token (jwt.Jws e) ≡ refusal.OutOfMemory) (λ f. cause_of (refusal.Token (jwt.Jws e)) ≡ Some (of_token (jws f)))
+jws_held of_jws.Json some = refl
+jws_held (of_jws.Signature source) some = refl
+jws_held (of_jws.InvalidEncoding input) some = refl
+jws_held of_jws.Base64Decoding some = refl
+jws_held of_jws.Float some = refl
+jws_held of_jws.OutOfMemory some = absurd (some refl)
