@@ -1,4 +1,4 @@
 pub mod Bag
-pub mod BagLaws
 pub mod Batch
 pub mod Entry
+pub mod Identifiers

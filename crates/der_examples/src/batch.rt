@@ -1,17 +1,18 @@
 // A record of four fields.
-ghost use Rattle.std.specs.Prelude.{◌≡◌, string_bytes};
+#![tactic(auto, unfolding(crate::specs::Batch::batch_fields))]
+
+ghost use Rattle.std.specs.Prelude.{string_bytes};
 ghost use Rattle.std.specs.Option.{option_map};
-ghost use Rattle.picky_der.specs.Reading.{Gives};
-ghost use Rattle.picky_fields.specs.Fields.{run_at};
-ghost use Rattle.der_examples.specs.Batch.{BatchValue, batch_fields, batch, batch_lawful};
+ghost use Rattle.picky_fields.specs.Forms.{fields_by, sequence};
+ghost use Rattle.der_examples.specs.Batch.{BatchValue, batch_fields, batch_lawful};
 
 use picky_asn1_bits::OctetStringAsn1;
 use picky_asn1_oid::ObjectIdentifier;
 use picky_asn1_tag::{Asn1Value, Tag};
-use picky_der::{DerError, DerForm, DerRead, DerReader, DerWrite, write_value};
+use picky_der::{DerError, DerForm, DerRead, DerReader, DerWrite};
 use picky_fields::{
-    read_default, read_optional, read_optional_explicit, write_default, write_optional,
-    write_optional_explicit,
+    DerRecord, read_default, read_optional, read_optional_explicit, read_record, write_default,
+    write_optional, write_optional_explicit, write_record,
 };
 use std::alloc::Global;
 
@@ -40,54 +41,50 @@ impl DerForm for Batch {
 
     ghost stands_for = { ⟦<Batch as Asn1Value>⟧.meaning };
 
-    ghost form = { batch };
+    ghost form = { sequence batch_fields };
 
     ghost same_value = { λ _ _ e. e };
 }
 
-#[tactic(auto, unfolding(crate::specs::Batch::batch_fields, picky_fields::specs::Fields::run_at))]
-fn read_fields(alloc: Global, mut fields: DerReader<'_>) -> Result<Batch, DerError>
-    ensures { Gives ⟦<Batch as DerForm>⟧.stands_for result (run_at batch_fields.reading fields.entry.depth fields.entry.left) }
-{
-    let name = String::read_der(alloc, &mut fields)?;
-    let size = read_default(alloc, 1, &mut fields)?;
-    let owner = read_optional(alloc, &mut fields)?;
-    let mark = read_optional_explicit(alloc, 0, &mut fields)?;
-    fields.end()?;
-    Ok(Batch {
-        name,
-        size,
-        owner,
-        mark,
-    })
+impl DerRecord for Batch {
+    ghost fields = { fields_by ⟦<Batch as DerForm>⟧.stands_for batch_fields };
+
+    fn read_fields(alloc: Global, reader: &mut DerReader<'_>) -> Result<Self, DerError> {
+        let name = String::read_der(alloc, reader)?;
+        let size = read_default(alloc, 1, reader)?;
+        let owner = read_optional(alloc, reader)?;
+        let mark = read_optional_explicit(alloc, 0, reader)?;
+        Ok(Batch {
+            name,
+            size,
+            owner,
+            mark,
+        })
+    }
+
+    fn write_fields(&self, alloc: Global, out: &mut Vec<u8>) -> Result<(), DerError> {
+        self.name.write_der(alloc, out)?;
+        write_default(alloc, &self.size, self.size == 1, out)?;
+        write_optional(alloc, &self.owner, out)?;
+        write_optional_explicit(alloc, 0, &self.mark, out)
+    }
 }
 
 impl DerRead for Batch {
-    #[tactic(auto, unfolding(crate::specs::Batch::batch))]
     fn begins_with(tag: Tag) -> bool {
         tag == Tag::SEQUENCE
     }
 
-    #[tactic(auto, unfolding(crate::specs::Batch::batch, picky_fields::specs::Fields::enclosed_at))]
-    fn read_der(alloc: Global, reader: &mut DerReader<'_>) -> Result<Batch, DerError> {
-        let mut ahead = reader.fork();
-        let batch = read_fields(alloc, ahead.nested(Tag::SEQUENCE)?)?;
-        *reader = ahead;
-        Ok(batch)
+    fn read_der(alloc: Global, reader: &mut DerReader<'_>) -> Result<Self, DerError> {
+        read_record(alloc, reader)
     }
 
     ghost readable = { batch_lawful.readable };
 }
 
 impl DerWrite for Batch {
-    #[tactic(auto, unfolding(crate::specs::Batch::batch, crate::specs::Batch::batch_fields))]
     fn write_der(&self, alloc: Global, out: &mut Vec<u8>) -> Result<(), DerError> {
-        let mut fields = Vec::new(alloc);
-        self.name.write_der(alloc, &mut fields)?;
-        write_default(alloc, &self.size, self.size == 1, &mut fields)?;
-        write_optional(alloc, &self.owner, &mut fields)?;
-        write_optional_explicit(alloc, 0, &self.mark, &mut fields)?;
-        write_value(out, Tag::SEQUENCE, &fields)
+        write_record(alloc, self, out)
     }
 
     ghost writable = { batch_lawful.writable };

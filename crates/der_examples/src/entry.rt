@@ -1,15 +1,15 @@
 // A type told by an identifier.
-ghost use Rattle.std.specs.Prelude.{◌≡◌};
-ghost use Rattle.picky_der.specs.Reading.{Reads};
-ghost use Rattle.picky_der.specs.Form.{Writes};
-ghost use Rattle.picky_fields.specs.Fields.{identifier};
-ghost use Rattle.der_examples.specs.Entry.{name, count, EntryValue, entry_value, entry_cases, entry, entry_lawful};
+#![tactic(auto, unfolding(crate::specs::Entry::entry_fields))]
 
+ghost use Rattle.der_examples.specs.Entry.{EntryValue, entry_value, entry_fields, entry_lawful};
+ghost use Rattle.picky_fields.specs.Forms.{fields_by, sequence};
+
+use crate::identifiers::{write_count, write_name};
 use crate::{COUNT, NAME};
 use picky_asn1_oid::ObjectIdentifier;
 use picky_asn1_tag::{Asn1Value, Tag};
-use picky_der::{Asn1RawDer, DerError, DerForm, DerRead, DerReader, DerWrite, write_value};
-use picky_fields::{read_explicit, write_explicit};
+use picky_der::{Asn1RawDer, DerError, DerForm, DerRead, DerReader, DerWrite};
+use picky_fields::{DerRecord, read_explicit, read_record, write_explicit, write_record};
 use std::alloc::Global;
 
 /// What an entry says, told by an identifier.
@@ -39,84 +39,53 @@ impl DerForm for Entry {
 
     ghost stands_for = { entry_value };
 
-    ghost form = { entry };
+    ghost form = { sequence entry_fields };
 
     ghost same_value = { λ _ _ e. e };
 }
 
-#[tactic(auto, unfolding(crate::specs::Entry::entry_cases))]
-fn read_value(
-    alloc: Global,
-    kind: ObjectIdentifier,
-    reader: &mut DerReader<'_>,
-) -> Result<Entry, DerError>
-    ensures { Reads entry_value (entry_cases.reading kind) reader.old result reader.new }
-{
-    if kind.contents() == NAME.as_slice() {
-        return Ok(Entry::Name(read_explicit(alloc, 0, reader)?));
+impl DerRecord for Entry {
+    ghost fields = { fields_by entry_value entry_fields };
+
+    fn read_fields(alloc: Global, reader: &mut DerReader<'_>) -> Result<Self, DerError> {
+        let kind = ObjectIdentifier::read_der(alloc, reader)?;
+        if kind.contents() == NAME.as_slice() {
+            return Ok(Entry::Name(read_explicit(alloc, 0, reader)?));
+        }
+        if kind.contents() == COUNT.as_slice() {
+            return Ok(Entry::Count(read_explicit(alloc, 0, reader)?));
+        }
+        let value = read_explicit(alloc, 0, reader)?;
+        Ok(Entry::Unknown { kind, value })
     }
-    if kind.contents() == COUNT.as_slice() {
-        return Ok(Entry::Count(read_explicit(alloc, 0, reader)?));
+
+    fn write_fields(&self, alloc: Global, out: &mut Vec<u8>) -> Result<(), DerError> {
+        match self {
+            Entry::Name(text) => write_name(alloc, text, out),
+            Entry::Count(count) => write_count(alloc, count, out),
+            Entry::Unknown { kind, value } => {
+                kind.write_der(alloc, out)?;
+                write_explicit(alloc, 0, value, out)
+            }
+        }
     }
-    let value = read_explicit(alloc, 0, reader)?;
-    Ok(Entry::Unknown { kind, value })
 }
 
 impl DerRead for Entry {
-    #[tactic(auto, unfolding(crate::specs::Entry::entry))]
     fn begins_with(tag: Tag) -> bool {
         tag == Tag::SEQUENCE
     }
 
-    #[tactic(auto, unfolding(crate::specs::Entry::entry, picky_fields::specs::Fields::enclosed_at, picky_fields::specs::Fields::run_at))]
-    fn read_der(alloc: Global, reader: &mut DerReader<'_>) -> Result<Entry, DerError> {
-        let mut ahead = reader.fork();
-        let mut fields = ahead.nested(Tag::SEQUENCE)?;
-        let kind = ObjectIdentifier::read_der(alloc, &mut fields)?;
-        let entry = read_value(alloc, kind, &mut fields)?;
-        fields.end()?;
-        *reader = ahead;
-        Ok(entry)
+    fn read_der(alloc: Global, reader: &mut DerReader<'_>) -> Result<Self, DerError> {
+        read_record(alloc, reader)
     }
 
     ghost readable = { entry_lawful.readable };
 }
 
-#[tactic(auto, using(crate::specs::Entry::name_writes))]
-fn write_name(out: &mut Vec<u8>) -> Result<(), DerError>
-    ensures { Writes (λ s. identifier.Encodes s name) ⊥ result out.old.items out.new.items }
-{
-    write_value(out, Tag::OID, &NAME)
-}
-
-#[tactic(auto, using(crate::specs::Entry::count_writes))]
-fn write_count(out: &mut Vec<u8>) -> Result<(), DerError>
-    ensures { Writes (λ s. identifier.Encodes s count) ⊥ result out.old.items out.new.items }
-{
-    write_value(out, Tag::OID, &COUNT)
-}
-
 impl DerWrite for Entry {
-    #[tactic(auto, unfolding(crate::specs::Entry::entry, crate::specs::Entry::entry_cases))]
     fn write_der(&self, alloc: Global, out: &mut Vec<u8>) -> Result<(), DerError> {
-        let mut fields = Vec::new(alloc);
-        match self {
-            Entry::Name(text) => {
-                write_name(&mut fields)?;
-                write_explicit(alloc, 0, text, &mut fields)?;
-                write_value(out, Tag::SEQUENCE, &fields)
-            }
-            Entry::Count(count) => {
-                write_count(&mut fields)?;
-                write_explicit(alloc, 0, count, &mut fields)?;
-                write_value(out, Tag::SEQUENCE, &fields)
-            }
-            Entry::Unknown { kind, value } => {
-                kind.write_der(alloc, &mut fields)?;
-                write_explicit(alloc, 0, value, &mut fields)?;
-                write_value(out, Tag::SEQUENCE, &fields)
-            }
-        }
+        write_record(alloc, self, out)
     }
 
     ghost writable = { entry_lawful.writable };

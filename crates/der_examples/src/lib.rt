@@ -4,8 +4,9 @@
 mod bag;
 mod batch;
 mod entry;
+mod identifiers;
 
-pub use bag::{Bag, BagKind, read_levels};
+pub use bag::{Bag, BagKind, read_levels, write_levels};
 pub use batch::Batch;
 pub use entry::Entry;
 

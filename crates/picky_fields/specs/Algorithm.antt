@@ -1,13 +1,9 @@
 -- AlgorithmIdentifier: a SEQUENCE of an OBJECT IDENTIFIER and any one value, which may be absent (RFC 5280 section 4.1.1.2).
-use Rattle.std.specs.Prelude.{◌≡◌, ℕ, List, Option, Some, None, IfSome}
-use Rattle.std.proofs.Common.{refl, arith}
-use Rattle.picky_der.specs.Form.{Form, IsOneValue, IsWrittenInForm, NestsAtMost}
-use Rattle.picky_der.specs.Raw.{raw_form}
+use Rattle.picky_der.specs.Form.{IsWrittenInForm, NestsAtMost}
 use Rattle.picky_fields.specs.declared.algorithm.AlgorithmIdentifier.{AlgorithmIdentifier}
-use Rattle.picky_fields.specs.Fields.{identifier, one, SpellsOptional, optional_height, optional_last, ◌and◌, seen, sequence}
-use Rattle.picky_fields.specs.laws.Fields.{Lawful, one_lawful, and_lawful, one_to_one, seen_lawful, sequence_lawful}
-use Rattle.picky_fields.specs.laws.Optional.{optional_last_lawful}
-use Rattle.picky_fields.specs.laws.Plain.{identifier_lawful, raw_lawful}
+use Rattle.picky_fields.specs.Forms.{ℕ, List, Option, refl, arith, Form, identifier, raw_form, one, optional_last, ◌and◌, seen, sequence}
+use Rattle.picky_fields.specs.laws.Forms.{Lawful, one_lawful, and_lawful, one_to_one, seen_lawful, sequence_lawful, optional_last_lawful, identifier_lawful, raw_lawful}
+use Rattle.picky_fields.specs.laws.Heights.{NestsAndIsFormed, one_nests, optional_last_nests, and_nests, seen_nests, sequence_nests, sequence_written}
 
 abbrev pub algorithm_of : List ℕ × Option (List ℕ) → AlgorithmIdentifier
 algorithm_of p = record { oid = p.0; parameters = p.1 }
@@ -22,18 +18,13 @@ pub algorithm_lawful : Lawful algorithm
 unfolding algorithm
 algorithm_lawful = sequence_lawful (seen_lawful (one_to_one (λ _. refl) (λ _. refl)) (and_lawful (λ _ _. refl) (one_lawful identifier_lawful) (optional_last_lawful raw_lawful)))
 
-parameters_formed : (s : List ℕ) (p : Option (List ℕ)) → SpellsOptional raw_form.Encodes s p → IfSome p IsOneValue
-parameters_formed s None e = tt
-parameters_formed s (Some bytes) e = e.0
+algorithm_run : NestsAndIsFormed 0 (seen algorithm_of parts_of (one identifier and optional_last raw_form))
+algorithm_run = seen_nests algorithm_of parts_of (and_nests (one_nests identifier (λ _ _ _. omega arith) (λ _ _ e. e.0)) (optional_last_nests raw_form (λ _ _ _. omega arith) (λ _ _ e. e.0)))
 
 pub algorithm_formed : IsWrittenInForm algorithm
 unfolding algorithm
-algorithm_formed s a e = (e.fields.is_first.0, parameters_formed e.fields.back a.parameters e.fields.is_second)
-
-parameters_height : (s : List ℕ) (p : Option (List ℕ)) (e : SpellsOptional raw_form.Spells s p) → optional_height raw_form s p e ≡ 0
-parameters_height s None e = refl
-parameters_height s (Some bytes) e = refl
+algorithm_formed = sequence_written algorithm_run
 
 pub algorithm_nests : NestsAtMost 1 algorithm
 unfolding algorithm
-algorithm_nests s a p = omega (arith, parameters_height p.fields.spelled.back p.fields.value.1 p.fields.spelled.is_second)
+algorithm_nests = sequence_nests algorithm_run

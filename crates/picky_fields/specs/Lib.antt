@@ -1,6 +1,10 @@
 pub mod Algorithm
 pub mod Choice
 pub mod Fields
+pub mod Forms
+pub mod Known
+pub mod Levels
 pub mod Names
+pub mod Records
 pub mod SeenAgain
 pub mod laws

@@ -1,5 +1,5 @@
 -- A run seen as another type, some of whose values are never read: those that are written and then seen as others (own).
-use Rattle.std.specs.Prelude.{◌≡◌, ℕ, List}
+use Rattle.std.specs.Prelude.{◌≡◌}
 use Rattle.picky_fields.specs.Fields.{Fields, SpellsSeen, seen_at}
 
 -- The run f, of which each value x is seen as `to x`; y is written as `from y`. In form is a y that is seen in what is written of it.

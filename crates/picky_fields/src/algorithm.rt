@@ -5,7 +5,7 @@ ghost use Rattle.std.specs.Prelude.{◌≡◌, IfOk};
 ghost use Rattle.picky_fields.specs.declared.algorithm.AlgorithmIdentifier.{AlgorithmIdentifier as Algorithm};
 ghost use Rattle.picky_fields.specs.Algorithm.{algorithm, algorithm_lawful};
 
-use crate::optional::{read_last, write_optional};
+use crate::optional::{copy_optional, read_last, write_optional};
 use picky_asn1_oid::ObjectIdentifier;
 use picky_asn1_tag::{Asn1Value, CopyIn, Tag};
 use picky_der::{Asn1RawDer, DerError, DerForm, DerRead, DerReader, DerWrite, write_value};
@@ -21,26 +21,15 @@ pub struct AlgorithmIdentifier {
     pub parameters: Option<Asn1RawDer>,
 }
 
-fn copy_parameters(
-    alloc: Global,
-    parameters: &Option<Asn1RawDer>,
-) -> Result<Option<Asn1RawDer>, AllocError>
-    ensures { IfOk result (λ copy. copy ≡ parameters.now) }
-{
-    match parameters {
-        Some(parameters) => Ok(Some(parameters.clone(alloc)?)),
-        None => Ok(None),
-    }
-}
-
 impl AlgorithmIdentifier {
     /// A copy, in memory of its own.
+    #[tactic(auto, using(crate::specs::laws::Copies::copied_option))]
     pub fn clone(&self, alloc: Global) -> Result<AlgorithmIdentifier, AllocError>
         ensures { IfOk result (λ copy. copy ≡ self.now) }
     {
         Ok(AlgorithmIdentifier {
             oid: self.oid.clone(alloc)?,
-            parameters: copy_parameters(alloc, &self.parameters)?,
+            parameters: copy_optional(alloc, &self.parameters)?,
         })
     }
 }
@@ -73,10 +62,7 @@ impl DerRead for AlgorithmIdentifier {
         tag == Tag::SEQUENCE
     }
 
-    fn read_der(
-        alloc: Global,
-        reader: &mut DerReader<'_>,
-    ) -> Result<AlgorithmIdentifier, DerError> {
+    fn read_der(alloc: Global, reader: &mut DerReader<'_>) -> Result<Self, DerError> {
         let mut ahead = reader.fork();
         let mut fields = ahead.nested(Tag::SEQUENCE)?;
         let oid = ObjectIdentifier::read_der(alloc, &mut fields)?;

@@ -1,12 +1,13 @@
 // Fields that may be left out.
-ghost use Rattle.std.specs.Prelude.{◌≡◌};
+ghost use Rattle.std.specs.Prelude.{◌≡◌, IfOk};
 ghost use Rattle.std.specs.Option.{option_map};
 ghost use Rattle.picky_der.specs.Reading.{Reads};
 ghost use Rattle.picky_der.specs.Form.{Writes};
 ghost use Rattle.picky_fields.specs.Fields.{stands_next, any_tag, SpellsOptional, OptionalRefused, optional_at};
 
+use picky_asn1_tag::CopyIn;
 use picky_der::{DerError, DerRead, DerReader, DerWrite};
-use std::alloc::Global;
+use std::alloc::{AllocError, Global};
 
 #[tactic(auto, unfolding(picky_der::specs::Reading::tag_at))]
 pub fn stands_next<T: DerRead>(reader: &DerReader<'_>) -> bool
@@ -73,5 +74,15 @@ pub fn write_optional<T: DerWrite>(
     match value {
         Some(value) => value.write_der(alloc, out),
         None => Ok(()),
+    }
+}
+
+/// A copy of the value, where there is one, in memory of its own: it means the same.
+pub fn copy_optional<T: CopyIn>(alloc: Global, value: &Option<T>) -> Result<Option<T>, AllocError>
+    ensures { IfOk result (λ copy. option_map T.meaning copy ≡ option_map T.meaning value.now) }
+{
+    match value {
+        Some(value) => Ok(Some(value.copy_in(alloc)?)),
+        None => Ok(None),
     }
 }

@@ -59,7 +59,7 @@ module _ {X : Type 0} (f : Form X) (law : Readable f) where
   one_first : (s : List ℕ) (x : X) → f.in_form x → f.Spells s x → NoneOrBegins f.begins s
   one_first s x h p = inr (law.first s x h p)
 
-  one_readable : ReadableFields (one f)
+  pub one_readable : ReadableFields (one f)
   one_readable = record {
     one_way = λ x y s t a b g h p q _ _ e. law.prefix_free x y s t a b g h p q e;
     takes = λ depth bytes x rest fits e. law.takes depth bytes x rest (TailIsBytes-of bytes fits) e;
@@ -67,7 +67,7 @@ module _ {X : Type 0} (f : Form X) (law : Readable f) where
     first = one_first;
   }
 
-one_writable : {X : Type 0} (f : Form X) → Writable f → WritableFields (one f)
+pub one_writable : {X : Type 0} (f : Form X) → Writable f → WritableFields (one f)
 one_writable f law = record {
   encodes = law.encodes;
   is_encoding = law.is_encoding;
@@ -259,7 +259,7 @@ one_to_one {P = P} back forth = record { back = λ y _. back y; formed = λ x h.
 -- ---- the value around a run
 
 module _ {X : Type 0} (tag : Tag) (f : Fields X) (law : ReadableFields f) where
-  run_takes : (depth : ℕ) (c : List ℕ) (x : X) → IsBytes c → run_at f.reading depth c ≡ Ok x → f.in_form x × f.Spells c x
+  pub run_takes : (depth : ℕ) (c : List ℕ) (x : X) → IsBytes c → run_at f.reading depth c ≡ Ok x → f.in_form x × f.Spells c x
   unfolding run_at
   run_takes depth c x fits e =
       let w = bind_ok (f.reading depth c) (λ x. end_at x.1 >>= λ _. Ok x.0) x e in
@@ -283,7 +283,7 @@ module _ {X : Type 0} (tag : Tag) (f : Fields X) (law : ReadableFields f) where
       let k = run_takes (depth + 1) v.0.0 x (IsBytes-contents tag.0 v.0.0 v.0.1 (subst TailIsBytes t.1 fits)) (w.1 ∙ ap good (pair_fst _ _ same)) in
       enclosed_taken bytes v.0.0 v.0.1 rest x t.0 t.1 k.0 k.1 (pair_snd _ _ same)
 
-  run_again : (depth : ℕ) (c : List ℕ) (x : X) → f.in_form x → (p : f.Spells c x) → run_at f.reading depth c ≡ within depth (f.height c x p) x
+  pub run_again : (depth : ℕ) (c : List ℕ) (x : X) → f.in_form x → (p : f.Spells c x) → run_at f.reading depth c ≡ within depth (f.height c x p) x
   unfolding run_at
   run_again depth c x h p =
       let alone : f.reading depth c ≡ within depth (f.height c x p) (x, []) = ap (f.reading depth) (sym (append-nil c)) ∙ law.again depth c [] x h p refl in
@@ -317,7 +317,7 @@ module _ {X : Type 0} (tag : Tag) (f : Fields X) (law : ReadableFields f) where
       let k = IsValue-same tag p.contents q.contents s t a b p.value q.value e in
       (k.0, (law.one_way x y p.contents q.contents [] [] h i p.fields q.fields refl refl (ap (λ (c : List ℕ). c ++ []) k.1)).1)
 
-  enclosed_readable : Readable (enclosed tag f)
+  pub enclosed_readable : Readable (enclosed tag f)
   enclosed_readable = record {
     one_value = λ s x _ p. record { tag = tag; contents = p.contents; value = p.value };
     prefix_free = enclosed_prefix_free;
@@ -335,7 +335,7 @@ module _ {X : Type 0} (tag : Tag) (f : Fields X) (one_byte : tag.0 % 32 ≢ 31) 
       let inner : length (f.encoding x) < 2 ^ 64 = omega (arith, length-value_of tag.0 (f.encoding x)) in
       record { contents = f.encoding x; fields = law.has_encoding x h inner; value = IsValue-of tag (f.encoding x) one_byte fits }
 
-  enclosed_writable : Writable (enclosed tag f)
+  pub enclosed_writable : Writable (enclosed tag f)
   enclosed_writable = record {
     encodes = λ s x h p. record { contents = p.contents; fields = law.encodes p.contents x h p.fields; value = p.value };
     written = λ s x p. record { tag = tag; contents = p.contents; value = p.value };

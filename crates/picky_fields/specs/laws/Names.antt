@@ -1,7 +1,7 @@
 -- The laws of what is told by one of several keys that have names.
 use Rattle.std.proofs.Common.{◌≡◌, ℕ, ◌^◌, ◌<◌, false, ◌⊎◌, List, ◌++◌, length, Option, Some, None, Ok, refl, sym, ap, subst, ◌∙◌, inl, inr}
 use Rattle.picky_der.specs.Length.{IsBytes}
-use Rattle.picky_der.specs.Reading.{◌>>=◌, within}
+use Rattle.picky_der.specs.Reading.{within}
 use Rattle.picky_der.specs.Form.{Form, Takes}
 use Rattle.picky_der.specs.laws.Steps.{ok_is, bind_ok}
 use Rattle.picky_fields.specs.Fields.{stands_next, Fields}

@@ -1,5 +1,5 @@
 -- The laws of a run seen as another type, some of whose values are never read.
-use Rattle.std.proofs.Common.{◌≡◌, ℕ, ◌^◌, ◌<◌, List, ◌++◌, length, Ok, refl, sym, ap, subst, ◌∙◌}
+use Rattle.std.proofs.Common.{◌≡◌, ℕ, List, ◌++◌, Ok, refl, sym, ap, subst, ◌∙◌}
 use Rattle.std.specs.Prelude.{false}
 use Rattle.picky_der.specs.Length.{IsBytes}
 use Rattle.picky_der.specs.Reading.{within}
@@ -8,7 +8,7 @@ use Rattle.picky_der.specs.laws.Steps.{ok_is, bind_ok}
 use Rattle.picky_fields.specs.Fields.{Fields, stands_next, seen_at}
 use Rattle.picky_fields.specs.SeenAgain.{seen_again, SeesAgain}
 use Rattle.picky_fields.specs.laws.Depths.{at_map}
-use Rattle.picky_fields.specs.laws.Fields.{ReadableFields, WritableFields, LawfulFields}
+use Rattle.picky_fields.specs.laws.Fields.{ReadableFields, LawfulFields}
 
 module _ {X Y : Type 0} (to : X → Y) (from : Y → X) (f : Fields X) (sees : SeesAgain f.in_form to from) where
   abbrev view : Fields Y

@@ -3,8 +3,7 @@ use Rattle.std.proofs.lemmas.Result.{err_from_is_err_and}
 use Rattle.picky_der.specs.laws.Steps.{Fails-over}
 use Rattle.picky_asn1_wrapper.specs.Lists.{items_at}
 use Rattle.picky_asn1_wrapper.specs.laws.Loops.{stops, one_more, room_left}
-use Rattle.der_examples.specs.Bag.{bag_form}
-use Rattle.der_examples.specs.BagLaws.{bag_lawful}
+use Rattle.der_examples.specs.Bag.{bag_form, bag_lawful}
 use Rattle.der_examples.proofs.bag.+read.Goals as goal
 
 pub read_bags-returns-in_err-bag : goal.read_bags-returns-in_err-bag

@@ -5,22 +5,16 @@ use Rattle.der_examples.specs.Bag.{bag_form}
 use Rattle.der_examples.proofs.bag.+read.Given as goal
 
 abbrev pub decreases-read_bags : goal.decreases-read_bags
-decreases-read_bags l = 6 * l.levels + 1
-
-abbrev pub decreases-read_list : goal.decreases-read_list
-decreases-read_list l = 6 * l.levels + 2
+decreases-read_bags l = 4 * l.levels + 1
 
 abbrev pub decreases-read_contents : goal.decreases-read_contents
-decreases-read_contents l = 6 * l.levels + 3
+decreases-read_contents l = 4 * l.levels + 2
 
 abbrev pub decreases-read_kind : goal.decreases-read_kind
-decreases-read_kind l = 6 * l.levels + 4
-
-abbrev pub decreases-read_fields : goal.decreases-read_fields
-decreases-read_fields l = 6 * l.levels + 5
+decreases-read_kind l = 4 * l.levels + 3
 
 abbrev pub decreases-read_levels : goal.decreases-read_levels
-decreases-read_levels l = 6 * l.levels
+decreases-read_levels l = 4 * l.levels
 
 abbrev pub invariant-read_bags-loop-alloc : goal.invariant-read_bags-loop-alloc
 invariant-read_bags-loop-alloc l =
