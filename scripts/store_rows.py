@@ -26,14 +26,6 @@ def openssl(*words, data=None, folder="."):
     return subprocess.run(["openssl", *words], input=data, cwd=folder, check=True, stdout=subprocess.PIPE, stderr=subprocess.PIPE).stdout
 
 
-# containers that the program doesn't read yet
-UNBUILT = ("attribute", "certificate", "secret", "encrypted_key")
-
-
-def built(rows):
-    return [row for row in rows if row[1].split(".")[0] != "attribute" and row[1].split(" ")[-1] not in UNBUILT]
-
-
 class Node:
     """A value at the place that asn1parse lists."""
 
@@ -109,8 +101,10 @@ def rows_of_bag(name, node):
         yield f"{name} certificate variant", "store.variant certificate", value.bytes, "X509" if value.name() == "x509Certificate" else "Unknown"
     elif kind == "secretBag":
         yield f"{name} secret", "store.again secret", value.bytes, value.bytes.hex()
-    for attribute in node.children[2].children if len(node.children) > 2 else []:
-        yield from rows_of_attribute(name, attribute)
+    if len(node.children) > 2:
+        yield f"{name} attributes", "store.again attributes", node.children[2].bytes, node.children[2].bytes.hex()
+        for attribute in node.children[2].children:
+            yield from rows_of_attribute(name, attribute)
 
 
 def rows_of_store(name, data):
@@ -127,6 +121,8 @@ def rows_of_store(name, data):
         yield from rows_of_algorithm(name, "digest", DIGESTS, mac.children[0].children[0])
     for number, part in enumerate(tree(safe.children[1].children[0].contents).children):
         place = f"{name} part {number}"
+        yield place, "store.again part", part.bytes, part.bytes.hex()
+        yield f"{place} variant", "store.variant part", part.bytes, "EncryptedData" if part.name() == "pkcs7-encryptedData" else "Data"
         if part.name() == "pkcs7-encryptedData":
             encrypted = part.children[1].children[0]
             yield f"{place} encrypted", "store.again encrypted", encrypted.bytes, encrypted.bytes.hex()
@@ -179,6 +175,39 @@ def rows_of_attributes():
     yield "no set", "store.again attribute", sequence(name), "Truncated"
     yield "a sequence for the set", "store.again attribute", sequence(name, sequence(der(30, b"\0a"))), "WrongTag"
     yield "bytes after the set", "store.again attribute", sequence(name, der(0x31, der(30, b"\0a")), NULL), "TrailingBytes"
+    yield "an empty name", "store.again attribute", sequence(name, der(0x31, der(30))), sequence(name, der(0x31, der(30))).hex()
+    yield "an id", "attribute.holds", sequence(key, der(0x31, der(4, b"\1\2"))), "0102"
+    other = sequence(oid("1.2.3"), der(0x31, NULL, der(2, b"\1")))
+    for title, held in [("attributes in their order", [other, user, sequence(key, der(0x31, der(4)))]), ("two names", [user, user]), ("an attribute without values", [sequence(oid("1.2.3"), der(0x31))]), ("no attributes", [])]:
+        yield title, "store.again attributes", der(0x31, *held), der(0x31, *held).hex()
+    yield "a sequence of attributes", "store.again attributes", sequence(user), "WrongTag"
+    yield "an attribute that is cut", "store.again attributes", der(0x31, user, user[:-1]), "Truncated"
+
+
+def explicit(*contents):
+    return der(0xA0, *contents)
+
+
+def rows_of_held():
+    x509, other, value = oid(f"{PKCS9}.22.1"), oid("1.2.3"), explicit(der(4, b"c"))
+    for title, kind, held, variant in [("an X.509 certificate", "certificate", sequence(x509, value), "X509"), ("another certificate", "certificate", sequence(other, explicit(NULL)), "Unknown"), ("a secret", "secret", sequence(other, explicit(NULL)), "SecretBag"), ("a secret that is a certificate", "secret", sequence(x509, value), "SecretBag"), ("a key under another algorithm", "encrypted_key", sequence(sequence(other), der(4, b"k")), "EncryptedKeyBag")]:
+        yield title, f"store.again {kind}", held, held.hex()
+        yield title, f"store.variant {kind}", held, variant
+    for title, kind, held, wanted in [
+        ("an X.509 certificate that is a sequence", "certificate", sequence(x509, explicit(sequence())), "WrongTag"), ("a certificate without a value", "certificate", sequence(x509), "Truncated"), ("two values in a tag", "certificate", sequence(other, explicit(NULL, NULL)), "TrailingBytes"), ("bytes after a certificate", "certificate", sequence(x509, value, NULL), "TrailingBytes"),
+        ("a secret outside its tag", "secret", sequence(other, NULL), "WrongTag"), ("a secret without a value", "secret", sequence(other, explicit()), "Truncated"), ("a key without its algorithm", "encrypted_key", sequence(der(4, b"k")), "WrongTag"), ("a key without its bytes", "encrypted_key", sequence(sequence(other)), "Truncated"),
+    ]:
+        yield title, f"store.again {kind}", held, wanted
+
+
+def rows_of_parts():
+    data, encrypted, other = oid(f"{PKCS7}.1"), oid(f"{PKCS7}.6"), oid("1.2.3")
+    inside = sequence(der(2, b"\0"), sequence(data, sequence(other), der(0x80, b"c")))
+    for title, held, variant in [("no bags", sequence(data, explicit(der(4, sequence()))), "Data"), ("two bags", sequence(data, explicit(der(4, sequence(NULL, sequence())))), "Data"), ("an encrypted part", sequence(encrypted, explicit(inside)), "EncryptedData"), ("another part", sequence(other, explicit(NULL)), "Unknown"), ("another part without content", sequence(other), "Unknown")]:
+        yield title, "store.again part", held, held.hex()
+        yield title, "store.variant part", held, variant
+    for title, held, wanted in [("a part of data without content", sequence(data), "Truncated"), ("an encrypted part without content", sequence(encrypted), "Truncated"), ("bags outside their octets", sequence(data, explicit(sequence())), "WrongTag"), ("bytes after the bags", sequence(data, explicit(der(4, sequence(), NULL))), "TrailingBytes"), ("a bag that is cut", sequence(data, explicit(der(4, sequence(b"\5\1")))), "Truncated"), ("an encrypted part in octets", sequence(encrypted, explicit(der(4, inside))), "WrongTag"), ("bytes after another part", sequence(other, NULL), "TrailingBytes")]:
+        yield title, "store.again part", held, wanted
 
 
 def rows_of_algorithms():
@@ -264,7 +293,7 @@ def check(program):
     with tempfile.TemporaryDirectory() as folder:
         made, wrong, total, damaged = list(stores(folder)), 0, 0, 0
         for name, data in made:
-            rows = built(rows_of_store(name, data))
+            rows = list(rows_of_store(name, data))
             asked = [f"{title}: {call} {held.hex()}" for title, call, held, _ in rows]
             for row, wanted, said in zip(asked, (r[3] for r in rows), answers(program, asked)):
                 total += 1
@@ -288,11 +317,11 @@ def check(program):
 def main():
     if sys.argv[1:] == ["rows"]:
         with tempfile.TemporaryDirectory() as folder:
-            for made in (rows_of_attributes, rows_of_algorithms, rows_of_outer):
-                for title, call, held, wanted in built(made()):
+            for made in (rows_of_attributes, rows_of_held, rows_of_parts, rows_of_algorithms, rows_of_outer):
+                for title, call, held, wanted in made():
                     print(f"{title}: {call} {held.hex()} => {wanted}")
             for name, data in stores(folder, SMALL):
-                for title, call, held, wanted in built(rows_of_store(name, data)):
+                for title, call, held, wanted in rows_of_store(name, data):
                     print(f"{title}: {call} {held.hex()} => {wanted}")
         return 0
     if len(sys.argv) == 3 and sys.argv[1] == "check":

@@ -1,6 +1,6 @@
 // Containers by the names of their types.
-use crate::value;
-use anyhow::{Result, bail};
+use crate::{bags, value};
+use anyhow::Result;
 use picky_asn1_x509::{DigestInfo, EncryptedSafeContents, MacData, RawAuthenticatedSafe, RawPfx};
 use rows::{Answer, Words};
 use std::alloc::Global;
@@ -12,6 +12,6 @@ pub fn answer(alloc: Global, name: &str, call: &str, words: &mut Words<'_>) -> R
         "mac" => value::<MacData>(alloc, call, words),
         "safe" => value::<RawAuthenticatedSafe>(alloc, call, words),
         "pfx" => value::<RawPfx>(alloc, call, words),
-        _ => bail!("no such type"),
+        held => bags::answer(alloc, held, call, words),
     }
 }

@@ -3,10 +3,19 @@
 //!     store.again TYPE BYTES      what the value that is read is written as, or the fault; it is copied before it is written
 //!     store.variant TYPE BYTES    the name of the variant that is read, or the fault
 //!     store.last TYPE BYTES       the last field of the value that is read, as Debug prints it, or the fault
+//!     attribute.holds BYTES       the name or the id that an attribute is, `unknown` for another, or the fault
+//!     bags.again BYTES            what the bag that is read is written as, or the fault; bags.list of the bags of a part, bags.part of a part
+//!     bags.kind BYTES             the variant of what a bag holds, or the fault; bags.part_variant that of a part
+//!     bags.attributes BYTES       how many attributes a bag has, `none` where it has no set of them, or the fault
+//!     bags.within LEVELS BYTES    what the bag in front is written as, `none` where one stands deeper than the levels, or the fault
+//!     bags.contents LEVELS BYTES  the same of the bags of a part
 #![tactic(auto)]
 
 mod algorithms;
+mod attributes;
+mod bags;
 mod containers;
+mod safe_bags;
 
 use anyhow::{Result, bail};
 use picky_asn1_tag::CopyIn;
@@ -22,6 +31,8 @@ impl Calls for StoreCalls {
     fn answer(alloc: Global, notion: &str, call: &str, words: &mut Words<'_>) -> Result<Answer> {
         match notion {
             "store" => algorithms::answer(alloc, call, words),
+            "attribute" => attributes::answer(alloc, call, words),
+            "bags" => safe_bags::answer(alloc, call, words),
             _ => bail!("no such notion"),
         }
     }

@@ -1,0 +1,3 @@
+-- What the laws of attributes rest on.
+pub mod Attribute
+pub mod Lists

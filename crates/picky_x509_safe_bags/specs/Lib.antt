@@ -1,0 +1,4 @@
+pub mod Bag
+pub mod Kind
+pub mod Levels
+pub mod laws
