@@ -248,6 +248,8 @@ def private_reasons(data, at, other, told):
     kind = kind_in(found[1][2])
     if kind != kind_in(fields(data)[1][2]):
         return "refuses curves that it doesn't know"
+    if found[3:] != fields(data)[3:]:
+        return "refuses attributes that aren't of their form"
     if kind[0] == RSA:
         return "refuses numbers of RSA that don't fit one another, and other versions of them than 0"
     assert kind[0] == EC, (at, other.hex())

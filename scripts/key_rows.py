@@ -169,9 +169,8 @@ def with_attributes(private):
     return key_damage.value(key_damage.value(rest)[1])[3]
 
 
-def private_rows(made_keys):
-    print("\n# Private keys that openssl wrote in PKCS #8, the public part that stands in them by openssl and python's cryptography")
-    print("# (scripts/key_rows.py).")
+def private_forms(made_keys):
+    """Each key in all forms of PKCS #8 that openssl writes: its name, its bytes, and the public part that stands in them."""
     told = []
     for name, private in made_keys:
         spki = public_of(private)
@@ -182,6 +181,23 @@ def private_rows(made_keys):
         if is_on_curve(spki):
             told.append((name + " without its point", without_point(private), full.split(" ")[0]))
             told.append((name + " with a compressed point", with_short_point(private), parts_of(compressed_of(private), PublicFormat.CompressedPoint)))
+    return told
+
+
+def public_forms(made_keys):
+    """Each public key, and those on a curve with a compressed point too."""
+    told = []
+    for name, private in made_keys:
+        spki = public_of(private)
+        told.append((name, spki))
+        if is_on_curve(spki):
+            told.append((name + ", compressed", compressed_of(private)))
+    return told
+
+
+def private_rows(told):
+    print("\n# Private keys that openssl wrote in PKCS #8, the public part that stands in them by openssl and python's cryptography")
+    print("# (scripts/key_rows.py).")
     for name, private, shown in told:
         row(name, "private_key.read", private.hex(), shown)
         row(name + ", its bytes", "private_key.again", private.hex(), private.hex())
@@ -259,14 +275,15 @@ def own_private_rows(made_keys):
 
 def main():
     made_keys = [(name, made(*words)) for name, words in KEYS]
+    told = private_forms(made_keys)
     public_rows(made_keys)
     refused_rows(made_keys)
     ecdsa_rows(made_keys)
-    private_rows(made_keys)
+    private_rows(told)
     own_private_rows(made_keys)
-    for name, private in made_keys:
-        key_damage.public_rows(name, public_of(private))
-    for name, private in made_keys:
+    for name, spki in public_forms(made_keys):
+        key_damage.public_rows(name, spki)
+    for name, private, _ in told:
         key_damage.private_rows(name, private)
 
 

@@ -5,8 +5,9 @@ signatures, wrapped keys and secrets that `openssl` and python's `cryptography` 
 - `records.read`: `Ok`, or the refusal that the rule says which the row's name tells.
 - `records.verify`, `sign`, `public`, `unwrap`, `wrap`, `agree`, `ephemeral`: what the document says, whose values `openssl` and
   `cryptography` gave.
+- `users.signed`, `wrapped`: callers who find again what they made, so `true`.
 
-Run at the root of the repository: python3 scripts/record_rows.py
+They stand at the end of crates/key_rows/stdout. Run at the root of the repository: python3 scripts/record_rows.py
 """
 import base64
 import subprocess
@@ -53,7 +54,8 @@ def line(*fields):
 
 
 def row(name, call, words, answer):
-    print("%s => %s" % (("%s: records.%s %s" % (name, call, words)).rstrip(), answer))
+    call = call if "." in call else "records." + call
+    print("%s => %s" % (("%s: %s %s" % (name, call, words)).rstrip(), answer))
 
 
 def read(name, document, answer):
@@ -97,6 +99,18 @@ read("another word in front", "sign ed25519-sha512 %s AAAA AAAA\\n" % SK, "BadLi
 read("a field too many in a pair", "pair %s %s AAAA\\n" % (PE, SK), "BadLine 1")
 read("the first of two bad lines", line("sig", "ed25519-sha512", SK, b"m", b"s") + "x\\nx\\n", "BadLine 2")
 read("a bad line behind a line of another family", line("sig", "rsa-sha256", SK, b"m", b"s") + "x\\n", "Family 1")
+read("a line of another family behind a bad line", "x\\n" + line("sig", "rsa-sha256", SK, b"m", b"s"), "BadLine 1")
+read("a conflict behind a bad line", "x\\n" + "pair %s %s\\npair %s %s\\n" % (PE, SK, PE, SK1), "BadLine 1")
+read("two bad lines of one family each", line("sig", "rsa-sha256", SK, b"m", b"s") * 2, "Family 1")
+read("the tenth line", line("sig", "ed25519-sha512", SK, b"m", b"s") * 9 + "x\\n", "BadLine 10")
+read("the same line twice", line("sig", "ed25519-sha512", SK, b"m", b"s") * 2, "Ok")
+read("two signatures of one message", line("sig", "ed25519-sha512", SK, b"m", b"s") + line("sig", "ed25519-sha512", SK, b"m", b"t"), "Ok")
+read("a line of each kind, in any order", line("agree", spki(x), spki(x_other), b"s") + line("unwrap", "RSA1_5", rsa, b"w", b"c") + "pair %s %s\\n" % (PE, SK) + line("sig", "ed25519-sha512", SK, b"m", b"s"), "Ok")
+read("LF alone behind a line", line("sig", "ed25519-sha512", SK, b"m", b"s") + "\\n", "BadLine 2")
+read("a field too few in a signature", "sig ed25519-sha512 %s AAAA\\n" % SK, "BadLine 1")
+read("a field too few in a pair", "pair %s\\n" % PE, "BadLine 1")
+read("a field too few in a wrapped key", "unwrap RSA1_5 %s AAAA\\n" % field(rsa), "BadLine 1")
+read("a field too few in an agreement", "agree %s %s\\n" % (field(spki(x)), field(spki(x_other))), "BadLine 1")
 
 print()
 print("# Lines of signatures")
@@ -175,6 +189,10 @@ read("a known curve and another", line("pair", bare256, spki(curves["secp256k1"]
 read("a curve that isn't known", line("pair", curves["secp256k1"], spki(curves["secp256k1"])), "Ok")
 read("a private key that can't be read", line("pair", ed[:-1], spki(ed)), "BadLine 1")
 read("a public key in the private one's place", line("pair", spki(ed), spki(ed)), "BadLine 1")
+row("the public key of one of two pairs", "public", "%s %s" % (ed_other.hex(), line("pair", ed, spki(ed)) + line("pair", ed_other, spki(ed_other))), spki(ed_other).hex())
+read("another public key behind another pair", line("pair", ed, spki(ed)) + line("pair", ed_other, spki(ed_other)) + line("pair", ed, spki(ed_other)), "Conflict 3")
+read("a pair of another kind, with another part than its own", line("pair", rsa, spki(p256)), "Family 1")
+read("a public key that can't be read, of another kind", line("pair", rsa, spki(p256)[:-1]), "BadLine 1")
 read("a conflict behind a family", line("pair", rsa, spki(ed)) + "pair %s %s\\npair %s %s\\n" % (PE, SK, PE, SK1), "Family 1")
 read("a conflict in front of a family", "pair %s %s\\npair %s %s\\n" % (PE, SK, PE, SK1) + line("pair", rsa, spki(ed)), "Conflict 2")
 
@@ -200,6 +218,9 @@ read("the same content key", line("unwrap", "RSA1_5", rsa, b"w", cek) * 2, "Ok")
 read("another content key of another wrapped key", line("unwrap", "RSA1_5", rsa, b"w", cek) + line("unwrap", "RSA1_5", rsa, b"v", cek[:-1]), "Ok")
 read("another content key of another scheme", line("unwrap", "RSA1_5", rsa, b"w", cek) + line("unwrap", "RSA-OAEP", rsa, b"w", cek[:-1]), "Ok")
 read("another content key of another private key", line("unwrap", "RSA1_5", rsa, b"w", cek) + line("unwrap", "RSA1_5", rsa_other, b"w", cek[:-1]), "Ok")
+read("another content key in its third line", line("unwrap", "RSA1_5", rsa, b"w", cek) * 2 + line("unwrap", "RSA1_5", rsa, b"w", cek[:-1]), "Conflict 3")
+read("another content key that is no base64url", line("unwrap", "RSA1_5", rsa, b"w", cek) + line("unwrap", "RSA1_5", rsa, b"w", "AA=="), "BadLine 2")
+read("a key that isn't RSA, and a content key that is no base64url", line("unwrap", "RSA1_5", p256, b"w", "AA=="), "BadLine 1")
 read("another scheme's name", line("unwrap", "RSA-OAEP-512", rsa, b"w", cek), "BadLine 1")
 read("a key that isn't RSA", line("unwrap", "RSA1_5", p256, b"w", cek), "Family 1")
 read("an empty wrapped key and an empty content key", line("unwrap", "RSA1_5", rsa, b"", b""), "Ok")
@@ -217,9 +238,12 @@ row("agreed on P-256", "agree", "%s %s %s" % (p256.hex(), spki(other256).hex(), 
 row("agreed in the other order", "agree", "%s %s %s" % (other256.hex(), spki(p256).hex(), agreed), secret256.hex())
 row("agreed by a key without public part", "agree", "%s %s %s" % (x.hex(), spki(x_other).hex(), agreed), "none")
 row("agreed by a key of a pair", "agree", "%s %s %s" % (x.hex(), spki(x_other).hex(), agreed + line("pair", x, spki(x))), secret.hex())
+row("agreed on P-256 by the peer's own key", "agree", "%s %s %s" % (p256.hex(), spki(p256).hex(), line("agree", spki(p256), spki(p256), b"own")), b"own".hex())
 row("agreed with another peer", "agree", "%s %s %s" % (p256.hex(), spki(p256).hex(), agreed), "none")
-row("an ephemeral key for the first key", "ephemeral", "%s %s" % (spki(x).hex(), agreed), spki(x_other).hex())
-row("an ephemeral key for the second key", "ephemeral", "%s %s" % (spki(other256).hex(), agreed), spki(p256).hex())
+row("an ephemeral key for the first key", "ephemeral", "%s %s" % (spki(x).hex(), agreed), "%s %s" % (spki(x_other).hex(), secret.hex()))
+row("an ephemeral key for the second key", "ephemeral", "%s %s" % (spki(other256).hex(), agreed), "%s %s" % (spki(p256).hex(), secret256.hex()))
+row("the first of two ephemeral keys", "ephemeral", "%s %s" % (spki(x).hex(), line("agree", spki(x_other), spki(x), b"one") + line("agree", spki(x), spki(x), b"two")), "%s %s" % (spki(x_other).hex(), b"one".hex()))
+row("an ephemeral key without a secret", "ephemeral", "%s %s" % (spki(x).hex(), line("agree", spki(x), spki(x_other), b"")), "%s -" % spki(x_other).hex())
 row("no ephemeral key", "ephemeral", "%s %s" % (spki(ed).hex(), agreed), "none")
 read("another secret", line("agree", spki(x), spki(x_other), b"s") + line("agree", spki(x), spki(x_other), b"t"), "Conflict 2")
 read("another secret in the other order", line("agree", spki(x), spki(x_other), b"s") + line("agree", spki(x_other), spki(x), b"t"), "Conflict 2")
@@ -231,10 +255,17 @@ read("a curve that isn't known", line("agree", spki(curves["secp256k1"]), spki(c
 read("two Ed25519 keys", line("agree", spki(ed), spki(ed_other), b"s"), "Family 1")
 read("two RSA keys", line("agree", spki(rsa), spki(rsa_other), b"s"), "Family 1")
 read("X25519 and P-256 in one line", line("agree", spki(x), spki(p256), b"s"), "Family 1")
+read("an Ed25519 and an X25519 key", line("agree", spki(ed), spki(x), b"s"), "Family 1")
+read("a secret that is no base64url, of two RSA keys", line("agree", spki(rsa), spki(rsa_other), "AA=="), "BadLine 1")
+read("another secret in the other order, in the third line", line("agree", spki(x), spki(x_other), b"s") * 2 + line("agree", spki(x_other), spki(x), b"t"), "Conflict 3")
+read("another secret of another peer", line("agree", spki(p256), spki(other256), b"s") + line("agree", spki(p256), spki(p256), b"t"), "Ok")
 
 print()
-print("# Callers, who find what they signed, wrapped and agreed on")
-users = line(SIG, "rsa-sha256", spki(rsa), cek, rsa_signature) + document
-row("an RSA key", "users", "%s rsa-sha256 RSA-OAEP %s %s" % (rsa.hex(), cek.hex(), users), "true")
-users = line(SIG, "ecdsa-sha256", spki(p256), cek, ec_signatures["P-256"]) + agreed
-row("a key on P-256", "users", "%s ecdsa-sha256 RSA1_5 %s %s" % (p256.hex(), cek.hex(), users), "true")
+print("# Callers, who find again what they signed and wrapped")
+users = signed + document
+row("a signature of RSA", "users.signed", "%s rsa-sha256 %s %s" % (rsa.hex(), message.hex(), users), "true")
+row("a signature of P-256", "users.signed", "%s ecdsa-sha256 %s %s" % (p256.hex(), message.hex(), users), "true")
+row("a key that signs nothing", "users.signed", "%s ed25519-sha512 %s %s" % (ed.hex(), message.hex(), users), "true")
+for scheme in wrapped:
+    row("a key wrapped by %s" % scheme, "users.wrapped", "%s %s %s %s" % (rsa.hex(), scheme, cek.hex(), users), "true")
+row("a key that wraps nothing", "users.wrapped", "%s RSA1_5 %s %s" % (rsa_other.hex(), cek.hex(), users), "true")

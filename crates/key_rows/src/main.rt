@@ -12,12 +12,24 @@
 //!     private_key.damaged BYTES         the same of a private key
 //!     ecdsa.of SIZE BYTES               what the pair of two halves is written as, or the refusal
 //!     ecdsa.fixed SIZE BYTES            the two halves of a pair in DER, or the refusal
+//!     records.read RECORDS              `Ok`, or the refusal
+//!     records.verify KEY ALGORITHM MESSAGE BYTES RECORDS     whether they have that signature
+//!     records.sign PKCS8 ALGORITHM MESSAGE RECORDS           the signature, or `none`
+//!     records.public PKCS8 RECORDS                           the public key, or `none`
+//!     records.unwrap SCHEME PKCS8 WRAPPED RECORDS            the content key, or `none`
+//!     records.wrap SCHEME KEY BYTES RECORDS                  the wrapped key of that content key, or `none`
+//!     records.agree PKCS8 KEY RECORDS                        the secret, or `none`
+//!     records.ephemeral KEY RECORDS                          the ephemeral key and the secret, or `none`
+//!     users.signed PKCS8 ALGORITHM MESSAGE RECORDS           whether what is signed is verified, where something is
+//!     users.wrapped PKCS8 SCHEME BYTES RECORDS               whether what is wrapped is unwrapped to that content key
 #![tactic(auto)]
 
 mod damage;
 mod ecdsa;
 mod private;
 mod public;
+mod records;
+mod users;
 
 use anyhow::{Result, bail};
 use rows::{Answer, Calls, Words, answer_rows};
@@ -32,6 +44,8 @@ impl Calls for KeyCalls {
             "public_key" => public::answer(alloc, call, words),
             "private_key" => private::answer(alloc, call, words),
             "ecdsa" => ecdsa::answer(alloc, call, words),
+            "records" => records::answer(alloc, call, words),
+            "users" => users::answer(alloc, call, words),
             _ => bail!("no such notion"),
         }
     }
