@@ -6,6 +6,7 @@ documents that rows name into crates/gate_rows/data.
 """
 import base64
 import hashlib
+import json
 import pathlib
 import sys
 
@@ -24,20 +25,107 @@ TEXTS = {
     name: (text, spell(text))
     for name, text in [
         ("K1", '{"alg":"EdDSA","kid":"k1"}'),
+        ("K1_NAMED", '{"alg":"ED25519","kid":"k1"}'),
+        ("K1_SECOND", '{"typ":"JWT","kid":"k1","alg":"EdDSA","cty":null,"x5c":["AA=="],"jwk":{"kty":"oct"},"n":[1]}'),
         ("K1_SPACE", '{"alg": "EdDSA","kid":"k1"}'),
         ("K2", '{"alg":"EdDSA","kid":"k2"}'),
         ("NO_KID", '{"alg":"EdDSA"}'),
         ("HS256", '{"alg":"HS256","kid":"k1"}'),
+        ("NONE", '{"alg":"none","kid":"k1"}'),
+        ("K1_FLOAT", '{"alg":"EdDSA","kid":"k1","v":1.5}'),
+        ("NO_ALG_FLOAT", '{"kid":"k1","v":1.5}'),
+        ("RSA", '{"typ":"JWT","alg":"RS256","kid":"my-rsa-key"}'),
+        ("RSA_512", '{"alg":"RS512","kid":"my-rsa-key"}'),
+        ("RSA_ES", '{"alg":"ES256","kid":"my-rsa-key"}'),
+        ("E256", '{"alg":"ES256","kid":"e"}'),
+        ("E384", '{"alg":"ES384","kid":"e"}'),
+        ("E512", '{"alg":"ES512","kid":"e"}'),
+        ("F384", '{"alg":"ES384","kid":"f"}'),
         ("EXP", '{"exp":100}'),
         ("NO_EXP", "{}"),
         ("NBF", '{"exp":100,"nbf":1}'),
         ("FLOAT", '{"exp":100,"x":1.5}'),
+        ("NULL_END", '{"exp":null}'),
+        ("NULL_START", '{"nbf":null,"exp":null}'),
+        ("TEXT_END", '{"exp":"100"}'),
+        ("WIDE_END", '{"exp":9223372036854775808}'),
+        ("LAST_END", '{"exp":9223372036854775807}'),
+        ("LATE", '{"exp":100,"nbf":99}'),
+        ("LIST", "[]"),
+        (
+            "USUAL",
+            '{"iss":"https://id.example","sub":"42","aud":"api","iat":1700000000,"nbf":1700000000,"exp":1700003600,"scope":"read write"}',
+        ),
     ]
 }
+TEXTS["NOTHING"] = ("", "")
+TEXTS["NO_JSON"] = ("abc", spell("abc"))
 SPKI = "MCowBQYDK2VwAyEA" + "A" * 43
 PKCS8 = "MC4CAQAwBQYDK2VwBCIEI" + "A" * 43
 RSA = "MB4wDQYJKoZIhvcNAQEBBQADDQAwCgIDAQABAgMBAAE"
-KEY = '{"kty":"OKP","crv":"Ed25519","x":"%s","kid":"k1"}' % ("A" * 43)
+A43 = "A" * 43
+KEY = '{"kty":"OKP","crv":"Ed25519","x":"%s","kid":"k1"}' % A43
+RSA_KEY = '{"kty":"RSA","n":"AQAB","e":"AQAB","kid":"my-rsa-key"}'
+
+
+def spki(oid, point):
+    """A SubjectPublicKeyInfo (RFC 5480, section 2) of a curve's identifier and an uncompressed point, each in hex."""
+
+    def der(tag, contents):
+        return bytes([tag, len(contents)]) + contents if len(contents) < 128 else bytes([tag, 129, len(contents)]) + contents
+
+    algorithm = der(6, bytes.fromhex("2a8648ce3d0201")) + der(6, bytes.fromhex(oid))
+    key = der(48, der(48, algorithm) + der(3, b"\0" + point))
+    return base64.urlsafe_b64encode(key).rstrip(b"=").decode()
+
+
+P256 = spki("2a8648ce3d030107", b"\4" + bytes(64))
+P384 = spki("2b81040022", b"\4" + bytes(96))
+
+
+def fixed(size, r, s):
+    """A signature of two numbers, as a token holds it (RFC 7518, section 3.4)."""
+    octets = r.to_bytes(size, "big") + s.to_bytes(size, "big")
+    return base64.urlsafe_b64encode(octets).rstrip(b"=").decode()
+
+
+# the DER of the pair of 1 and 128
+PAIR = base64.urlsafe_b64encode(bytes.fromhex("3007020101" + "02020080")).rstrip(b"=").decode()
+
+
+def jwk(**members):
+    """The text of a key; the name of a member with a dash is spelled with an underscore, and `use` ends in one."""
+    names = {"x5t_S256": "x5t#S256", "x5t_s256": "x5t#s256", "use_": "use"}
+    return json.dumps({names.get(name, name): value for name, value in members.items()}, separators=(",", ":"))
+
+
+def jwks(*keys):
+    return '{"keys":[%s]}' % ",".join(keys)
+
+
+def ed(**members):
+    return jwk(**{"kty": "OKP", "crv": "Ed25519", "x": A43, "kid": "k1", **members})
+
+
+def p256(**members):
+    return jwk(**{"kty": "EC", "crv": "P-256", "x": A43, "y": A43, "kid": "e", **members})
+
+
+# keys that are skipped, whose texts no key is read of
+SKIPPED = [
+    jwk(kty="OKP", crv="Ed25519", x="!"),
+    ed(x="!", use_="enc"),
+    jwk(kty="oct", kid="k1", k="!"),
+    ed(crv="X25519", x="!"),
+    ed(crv="Ed448", x="!"),
+    ed(crv="X448", x="!"),
+    ed(x="!", alg="HS256"),
+    ed(x="!", alg="PS512"),
+    ed(x="!", alg="A128GCM"),
+    ed(x="!", alg="RSA-OAEP"),
+]
+FULL = {"use_": "sig", "key_ops": ["verify"], "x5u": "u", "x5c": ["AA=="], "x5t": "t", "x5t_S256": "s", "other": [1.5, None]}
+NULLS = {"alg": None, "use_": None, "key_ops": None, "x5u": None, "x5c": None, "x5t": None, "x5t_S256": None}
 
 
 def record(message):
@@ -46,6 +134,11 @@ def record(message):
 
 def signed(header, claims):
     return token(header, claims).rsplit(".", 1)[0]
+
+
+def records_of(algorithm, key, *signed_tokens):
+    """Lines for tokens: the text before the last dot, and what is asked of the signature after it."""
+    return "".join(f"sig {algorithm} {key} {spell(text.rsplit('.', 1)[0])} {asked}\n" for text, asked in signed_tokens)
 
 
 def sign_record(message, signature="-_8"):
@@ -99,6 +192,28 @@ DOCUMENTS = {
     "keys": '{"keys":[%s]}' % KEY,
     "no-keys": '{"keys":[]}',
     "object": "{}",
+    "rsa": jwks(RSA_KEY),
+    "curves": jwks(p256(alg="ES256"), p256(kid="f", crv="P-384", x="A" * 64, y="A" * 64)),
+    "curve-512": jwks(p256(alg="ES512")),
+    "all-members": jwks(
+        jwk(kty="RSA", n="AQAB", e="AQAB", kid="my-rsa-key", alg="RS256", **FULL), p256(alg="ES256", **FULL), ed(alg="EdDSA", **FULL)
+    ),
+    "all-null": jwks(ed(**NULLS)),
+    "skipped": jwks(*SKIPPED, KEY),
+    "skipped-only": jwks(*SKIPPED),
+    "skipped-unknown": jwks(KEY, ed(use_="enc", alg="none")),
+    "no-base64": jwks(ed(x="AAB")),
+    "short": jwks(ed(x="AAAA")),
+    "wide": jwks(p256(x=spell("x" * 33))),
+    "of-rsa": jwks(ed(alg="RS256")),
+    "of-x5t-twice": jwks(ed(x5t_S256=None, x5t_s256="s")),
+    "kid-number": jwks(ed(kid=1)),
+    "no-base64-of-rsa": jwks(ed(x="!", alg="RS256")),
+    "twice-of-rsa": jwks(KEY, ed(alg="RS256")),
+    "twice-then-no-base64": jwks(KEY, KEY, ed(x="!")),
+    "no-base64-then-twice": jwks(ed(x="!", kid="k2"), KEY, KEY),
+    "twice-skipped": jwks(KEY, ed(use_="enc")),
+    "deep": '{"keys":[%s],"a":%s%s}' % (KEY, "[" * 127, "]" * 127),
     "twice": '{"keys":[%s,%s]}' % (KEY, KEY),
     "records": record(signed("K1", "EXP")),
     "other-message": record(signed("K1", "EXP")[:-1] + "1"),
@@ -106,6 +221,18 @@ DOCUMENTS = {
         record(signed(header, claims))
         for header, claims in [("K1_SPACE", "EXP"), ("K1", "NO_EXP"), ("K1", "NBF"), ("K1", "FLOAT")]
     ),
+    "claims": "".join(
+        record(signed("K1", claims))
+        for claims in ["NULL_END", "NULL_START", "TEXT_END", "WIDE_END", "LAST_END", "LATE", "LIST", "NO_JSON", "NOTHING"]
+    ),
+    "headers": "".join(record(signed(header, "EXP")) for header in ["K1_NAMED", "K1_SECOND", "HS256", "NO_KID"]),
+    "of-rsa-key": records_of("rsa-sha256", RSA, (token("RSA", "USUAL"), "AAAA"), (token("RSA_ES"), PAIR))
+    + records_of("rsa-sha512", RSA, (token("RSA_512"), "AAAA"))
+    + f"sig rsa-sha256 {RSA} {spell(lines(*THREE))} -_8\n",
+    "of-curves": records_of("ecdsa-sha256", P256, (token("E256"), PAIR))
+    + records_of("ecdsa-sha384", P256, (token("E384"), PAIR))
+    + records_of("ecdsa-sha512", P256, (token("E512"), PAIR))
+    + records_of("ecdsa-sha384", P384, (token("F384"), PAIR)),
     "word": "x\n",
     "mixed": f"sig rsa-sha256 {RSA} AAAA AAAA\npair {PKCS8} {SPKI}\n" + record(signed("K1", "EXP")),
     "second-word": record(signed("K1", "EXP")) + "x\nx\n",
@@ -125,8 +252,19 @@ def document(name):
     return text if isinstance(text, bytes) else text.encode()
 
 
-def words(text, now="99", keys="keys", records="records"):
-    return f"|admit|--keys|{keys}|--records|{records}|--text|{text}|--now|{now}"
+def words(text, now="99", keys="keys", records="records", checks=None):
+    """The words for a token; without a moment or checks where that is none."""
+    flags = [("--now", now), ("--checks", checks)]
+    given = "".join(f"|{flag}|{value}" for flag, value in flags if value is not None)
+    return f"|admit|--keys|{keys}|--records|{records}|--text|{text}{given}"
+
+
+def claims_words(claims, now="99", checks=None, records="claims"):
+    return words("Bearer " + token("K1", claims), now, records=records, checks=checks)
+
+
+def admitted(claims, alg="EdDSA", name="k1"):
+    return f'admitted "{name}"\\ntoken {alg} {claims}\\n'
 
 
 def asks(text, request="head", now="1402170695", leeway=None, keys="keys", records="signed"):
@@ -158,6 +296,17 @@ def request_lines(parts, created="-", expires="-"):
 FIRST = "Bearer " + token("K1")
 ADMITTED = 'admitted "k1"\\ntoken EdDSA {"exp":100}\\n'
 UNBUILT = "refused Unbuilt\\n"
+JWS = "refused Jws."
+JWT = "refused Jwt."
+UNCUT = JWS + "InvalidEncoding\\n"
+TOKEN_BASE64 = JWS + "Base64Decoding\\n"
+NO_HEADER = JWS + "Json\\n"
+TOO_LATE = JWT + "Expired\\n"
+TOO_EARLY = JWT + "NotYetValid\\n"
+NO_CLAIM = JWT + "RequiredClaimMissing\\n"
+NO_INTEGER = JWT + "InvalidRegisteredClaimType\\n"
+NO_DATE = JWT + "InvalidValidator\\n"
+NO_KEY = "refused NoKey\\n"
 NO_SCHEME = "refused NoScheme\\n"
 SIGNATURE = "refused Jws.Signature\\n"
 USAGE = "usage\\n"
@@ -177,19 +326,50 @@ RUNS = [
     ("a header with a space, recorded as it stands", words("Bearer " + token("K1_SPACE"), records="more"), 0, ADMITTED),
     ("a header with a space, not recorded", words("Bearer " + token("K1_SPACE")), 1, SIGNATURE),
     ("another signature", words("Bearer " + token("K1", signature="AAAB")), 1, SIGNATURE),
-    ("a signature with stray bits", words("Bearer " + token("K1", signature="AAB")), 1, UNBUILT),
+    ("a signature with stray bits", words("Bearer " + token("K1", signature="AAB")), 1, TOKEN_BASE64),
+    ("a signature of two bytes", words("Bearer " + token("K1", signature="AAA")), 1, SIGNATURE),
     ("another scheme", words("Basic abc"), 1, NO_SCHEME),
     ("a scheme word in lower case", words("bearer " + token("K1")), 1, NO_SCHEME),
     ("a scheme word without its space", words("Bearer"), 1, NO_SCHEME),
     ("no text", words(""), 1, NO_SCHEME),
-    ("no token", words("Bearer "), 1, UNBUILT),
+    ("no token", words("Bearer "), 1, UNCUT),
     ("four dots", words("Bearer " + token("K1") + ".A.A"), 1, UNBUILT),
-    ("a header without kid", words("Bearer " + token("NO_KID")), 1, UNBUILT),
-    ("another algorithm", words("Bearer " + token("HS256")), 1, UNBUILT),
+    ("four dots and no token", words("Bearer ...."), 1, UNBUILT),
+    ("three dots", words("Bearer " + token("K1") + ".AAAA"), 1, TOKEN_BASE64),
+    ("an empty header", words("Bearer .abc.abc"), 1, UNCUT),
+    ("an empty signature", words("Bearer abc.abc."), 1, UNCUT),
+    ("one dot", words("Bearer abc.abc"), 1, UNCUT),
+    ("no dot", words("Bearer abc"), 1, UNCUT),
+    ("a header that is no JSON", words("Bearer abc.abc.abc"), 1, NO_HEADER),
+    ("a header without its end", words("Bearer eyAiYWxnIjogIkhTMjU2IH0K.abc.abc"), 1, NO_HEADER),
+    ("a token of other letters", words("Bearer aieoè~†.tésp.à"), 1, TOKEN_BASE64),
+    ("three dots, two of them together", words("Bearer " + TEXTS["K1"][1] + "..AA.AAAA"), 1, TOKEN_BASE64),
+    ("a payload with stray bits", words("Bearer " + TEXTS["K1"][1] + ".AAB.AAAA"), 1, TOKEN_BASE64),
+    ("an unknown algorithm", words("Bearer " + token("NONE", "NO_EXP")), 1, NO_HEADER),
+    ("a header with a float", words("Bearer " + token("K1_FLOAT", "NO_EXP")), 1, JWS + "Float\\n"),
+    ("a float stands before the form", words("Bearer " + token("NO_ALG_FLOAT")), 1, JWS + "Float\\n"),
+    ("the header stands before the signature", words("Bearer " + token("NONE", signature="!")), 1, NO_HEADER),
+    ("the cut stands before the key", words("Bearer " + token("K2", signature="AAB")), 1, TOKEN_BASE64),
+    ("a header without kid", words("Bearer " + token("NO_KID"), records="headers"), 1, NO_KEY),
+    ("an algorithm that nothing checks", words("Bearer " + token("HS256"), records="headers"), 1, SIGNATURE),
+    ("the other name of the algorithm", words("Bearer " + token("K1_NAMED"), records="headers"), 0, admitted('{"exp":100}', "ED25519")),
+    ("a header of many members", words("Bearer " + token("K1_SECOND"), records="headers"), 0, ADMITTED),
     ("claims without an end, not recorded", words("Bearer " + token("K1", "NO_EXP")), 1, SIGNATURE),
-    ("claims without an end, recorded", words("Bearer " + token("K1", "NO_EXP"), records="more"), 1, UNBUILT),
-    ("claims with a start", words("Bearer " + token("K1", "NBF"), records="more"), 1, UNBUILT),
-    ("claims with a float", words("Bearer " + token("K1", "FLOAT"), records="more"), 1, UNBUILT),
+    ("claims without an end, recorded", words("Bearer " + token("K1", "NO_EXP"), records="more"), 0, admitted("{}")),
+    ("claims with a start", words("Bearer " + token("K1", "NBF"), records="more"), 0, admitted('{"exp":100,"nbf":1}')),
+    ("claims with a float", words("Bearer " + token("K1", "FLOAT"), records="more"), 1, JWT + "Float\\n"),
+    ("no payload", claims_words("NOTHING"), 1, JWT + "Json\\n"),
+    ("a payload that is no JSON", claims_words("NO_JSON"), 1, JWT + "Json\\n"),
+    ("an end that is null", claims_words("NULL_END"), 1, NO_INTEGER),
+    ("a start stands before an end", claims_words("NULL_START"), 1, NO_INTEGER),
+    ("an end that is a text", claims_words("TEXT_END"), 1, NO_INTEGER),
+    ("an end above i64", claims_words("WIDE_END"), 1, NO_INTEGER),
+    ("the last end at the last moment", claims_words("LAST_END", str(2**63 - 1)), 1, TOO_LATE),
+    ("the last end by the leeway", claims_words("LAST_END", str(2**63 - 1)) + "|--leeway|65535", 0, admitted('{"exp":9223372036854775807}')),
+    ("a start at the moment", claims_words("LATE"), 0, admitted('{"exp":100,"nbf":99}')),
+    ("a start after the moment", claims_words("LATE", "98"), 1, TOO_EARLY),
+    ("a start by the leeway", claims_words("LATE", "98") + "|--leeway|1", 0, admitted('{"exp":100,"nbf":99}')),
+    ("claims that are a list", claims_words("LIST"), 0, admitted("[]")),
     ("the greatest moment", words(FIRST, str(2**63 - 1)), 1, "refused Jwt.Expired\\n"),
     ("a moment too great", words(FIRST, str(2**63)), 2, USAGE),
     ("twenty digits", words(FIRST, "99".zfill(20)), 2, USAGE),
@@ -201,8 +381,8 @@ RUNS = [
     ("a flag twice", words(FIRST) + "|--now|99", 2, USAGE),
     ("a flag without value", words(FIRST) + "|--now", 2, USAGE),
     ("another flag", words(FIRST) + "|--store|keys", 2, USAGE),
-    ("no moment", words(FIRST).rsplit("|", 2)[0], 1, UNBUILT),
-    ("no moment stands before the key", words("Bearer " + token("K2")).rsplit("|", 2)[0], 1, UNBUILT),
+    ("no moment", words(FIRST, None), 0, ADMITTED),
+    ("an end that is null, without a moment", claims_words("NULL_END", None), 0, admitted('{"exp":null}')),
     ("the end with a leeway", words(FIRST, "100") + "|--leeway|1", 0, ADMITTED),
     ("a leeway with leading zeros", words(FIRST, "100") + "|--leeway|00001", 0, ADMITTED),
     ("the end of the leeway", words(FIRST, "101") + "|--leeway|1", 1, "refused Jwt.Expired\\n"),
@@ -212,18 +392,56 @@ RUNS = [
     ("a leeway without digits", words(FIRST) + "|--leeway|", 2, USAGE),
     ("a leeway with a sign", words(FIRST) + "|--leeway|+1", 2, USAGE),
     ("a leeway twice", words(FIRST) + "|--leeway|1|--leeway|1", 2, USAGE),
-    ("a leeway without a moment", words(FIRST).rsplit("|", 2)[0] + "|--leeway|1", 1, UNBUILT),
+    ("a leeway without a moment", words(FIRST, None) + "|--leeway|1", 0, ADMITTED),
+    ("strict checks of both claims", claims_words("LATE", checks="strict"), 0, admitted('{"exp":100,"nbf":99}')),
+    ("strict checks of claims without a start", words(FIRST, checks="strict"), 1, NO_CLAIM),
+    ("strict checks of a list", claims_words("LIST", "1", "strict"), 1, NO_CLAIM),
+    ("strict checks after the end", claims_words("LATE", "100", "strict"), 1, TOO_LATE),
+    ("strict checks by the leeway", claims_words("LATE", "100", "strict") + "|--leeway|1", 0, admitted('{"exp":100,"nbf":99}')),
+    ("strict checks without a moment", claims_words("LATE", None, "strict"), 1, NO_DATE),
+    ("strict checks of a list without a moment", claims_words("LIST", None, "strict"), 1, NO_DATE),
+    ("the validator stands before the claims", claims_words("NOTHING", None, "strict"), 1, NO_DATE),
+    ("the signature stands before the validator", claims_words("LATE", None, "strict", "records"), 1, SIGNATURE),
+    ("lenient checks", words(FIRST, checks="lenient"), 0, ADMITTED),
+    ("lenient checks after the end", words(FIRST, "100", checks="lenient"), 1, TOO_LATE),
+    ("lenient checks of claims without any", claims_words("NO_EXP", checks="lenient", records="more"), 0, admitted("{}")),
+    ("lenient checks without a moment", claims_words("TEXT_END", None, "lenient"), 0, admitted('{"exp":"100"}')),
+    ("no checks", words(FIRST, "100", checks="none"), 0, ADMITTED),
+    ("no checks of an end that is null", claims_words("NULL_END", "1", "none"), 0, admitted('{"exp":null}')),
+    ("no checks without a moment", claims_words("NULL_END", None, "none"), 0, admitted('{"exp":null}')),
+    ("no checks of claims with a float", claims_words("FLOAT", None, "none", "more"), 1, JWT + "Float\\n"),
+    ("checks twice", words(FIRST, checks="none") + "|--checks|none", 2, USAGE),
+    ("checks of another word", words(FIRST, checks="Strict"), 2, USAGE),
+    ("checks of no word", words(FIRST, checks=""), 2, USAGE),
+    ("checks without value", words(FIRST) + "|--checks", 2, USAGE),
     ("another command", words(FIRST).replace("admit", "Admit", 1), 2, USAGE),
     ("records that are not held", words(FIRST, records="nowhere"), 3, "cannot read records\\n"),
     ("keys that are not held", words(FIRST, keys="nowhere"), 3, "cannot read keys\\n"),
     ("keys are fetched first", words(FIRST, keys="nowhere", records="nowhere"), 3, "cannot read keys\\n"),
     ("keys one byte too long", words(FIRST, keys="long"), 4, "bad keys TooLong\\n"),
     ("records one byte too long", words(FIRST, records="long"), 4, "bad records TooLong\\n"),
-    ("keys of the greatest length", words(FIRST, keys="full"), 4, "bad keys Jwk.Unbuilt\\n"),
+    ("keys of the greatest length", words(FIRST, keys="full"), 4, "bad keys Jwk.Json\\n"),
     ("keys that are no text", words(FIRST, keys="latin"), 4, "bad keys Utf8\\n"),
     ("records that are no text", words(FIRST, records="latin"), 4, "bad records Utf8\\n"),
-    ("keys without keys", words(FIRST, keys="object"), 4, "bad keys Jwk.Unbuilt\\n"),
-    ("two keys of one name", words(FIRST, keys="twice"), 4, "bad keys Jwk.Unbuilt\\n"),
+    ("keys without keys", words(FIRST, keys="object"), 4, "bad keys Jwk.Json\\n"),
+    ("a name of a key that is no text", words(FIRST, keys="kid-number"), 4, "bad keys Jwk.Json\\n"),
+    ("both spellings of a member of a key", words(FIRST, keys="of-x5t-twice"), 4, "bad keys Jwk.Json\\n"),
+    ("an unknown algorithm of a key that is skipped", words(FIRST, keys="skipped-unknown"), 4, "bad keys Jwk.Json\\n"),
+    ("keys that nest 128 deep", words(FIRST, keys="deep"), 4, "bad keys Jwk.Json\\n"),
+    ("a key with stray bits", words(FIRST, keys="no-base64"), 4, "bad keys Jwk.Base64Decoding\\n"),
+    ("an Ed25519 key of three bytes", words(FIRST, keys="short"), 4, "bad keys Jwk.InvalidEdPublicKey\\n"),
+    ("a coordinate of 33 bytes", words(FIRST, keys="wide"), 4, "bad keys Jwk.InvalidEcPointCoordinates\\n"),
+    ("an RSA algorithm of an Ed25519 key in a set", words(FIRST, keys="of-rsa"), 4, "bad keys AlgorithmFamily\\n"),
+    ("two keys of one name", words(FIRST, keys="twice"), 4, "bad keys DuplicateName\\n"),
+    ("a key's texts stand before its algorithm", words(FIRST, keys="no-base64-of-rsa"), 4, "bad keys Jwk.Base64Decoding\\n"),
+    ("a key's algorithm stands before its name", words(FIRST, keys="twice-of-rsa"), 4, "bad keys AlgorithmFamily\\n"),
+    ("the second of three keys fails", words(FIRST, keys="twice-then-no-base64"), 4, "bad keys DuplicateName\\n"),
+    ("the first of three keys fails", words(FIRST, keys="no-base64-then-twice"), 4, "bad keys Jwk.Base64Decoding\\n"),
+    ("a name of a key that is skipped", words(FIRST, keys="twice-skipped"), 0, ADMITTED),
+    ("ten keys that are skipped", words(FIRST, keys="skipped"), 0, ADMITTED),
+    ("no key but those that are skipped", words(FIRST, keys="skipped-only"), 1, NO_KEY),
+    ("keys with all members", words(FIRST, keys="all-members"), 0, ADMITTED),
+    ("a key whose optional members are null", words(FIRST, keys="all-null"), 0, ADMITTED),
     ("a line of no form", words(FIRST, records="word"), 4, "bad records BadLine 1\\n"),
     ("records are checked first", words(FIRST, keys="object", records="word"), 4, "bad records BadLine 1\\n"),
     ("records of other keys and pairs beside the token's", words(FIRST, records="mixed"), 0, ADMITTED),
@@ -233,6 +451,49 @@ RUNS = [
     ("two public keys of one private key", words(FIRST, records="conflict"), 4, "bad records Conflict 2\\n"),
     ("the same pair twice", words(FIRST, records="same-pair"), 0, ADMITTED),
 ]
+
+
+def of_rsa(header, claims, now, checks="strict", keys="rsa", signature="AAAA"):
+    return words("Bearer " + token(header, claims, signature), now, keys, "of-rsa-key", checks)
+
+
+def of_curve(header, signature, keys="curves"):
+    return words("Bearer " + token(header, signature=signature), keys=keys, records="of-curves")
+
+
+USUAL = admitted(
+    '{"aud":"api","exp":1700003600,"iat":1700000000,"iss":"https://id.example","nbf":1700000000,"scope":"read write","sub":"42"}',
+    "RS256",
+    "my-rsa-key",
+)
+
+FAMILY_RUNS = [
+    ("a usual token", of_rsa("RSA", "USUAL", "1700000000"), 0, USUAL),
+    ("a usual token before its start", of_rsa("RSA", "USUAL", "1699999999"), 1, TOO_EARLY),
+    ("a usual token at its end", of_rsa("RSA", "USUAL", "1700003600"), 1, TOO_LATE),
+    ("a usual token under a key with all members", of_rsa("RSA", "USUAL", "1700000000", keys="all-members"), 0, USUAL),
+    ("a hash that the ring doesn't name", of_rsa("RSA_512", "EXP", "99", None), 0, admitted('{"exp":100}', "RS512", "my-rsa-key")),
+    ("a name of curves under an RSA key", of_rsa("RSA_ES", "EXP", "99", None, signature=fixed(32, 1, 128)), 1, SIGNATURE),
+    ("a curve's token", of_curve("E256", fixed(32, 1, 128)), 0, admitted('{"exp":100}', "ES256", "e")),
+    ("a curve's token, by 63 bytes", of_curve("E256", fixed(32, 1, 128)[:-2]), 1, SIGNATURE),
+    ("a curve's token, by other numbers", of_curve("E256", fixed(32, 128, 1)), 1, SIGNATURE),
+    ("a curve's token, by the pair itself", of_curve("E256", PAIR), 1, SIGNATURE),
+    ("another name under a curve's key", of_curve("E384", fixed(48, 1, 128)), 0, admitted('{"exp":100}', "ES384", "e")),
+    ("another name, by the bytes of its curve", of_curve("E384", fixed(32, 1, 128)), 1, SIGNATURE),
+    ("the name that the key has, of another curve", of_curve("E512", fixed(66, 1, 128), "curve-512"), 0, admitted('{"exp":100}', "ES512", "e")),
+    ("another curve's token", of_curve("F384", fixed(48, 1, 128)), 0, admitted('{"exp":100}', "ES384", "f")),
+]
+
+
+def rsa_three(algorithm='algorithm="rsa-sha256",', signature='"+/8="', now="1402170695", request="head"):
+    parts = "(request-target) (created) date"
+    text = f'Signature keyId="my-rsa-key",{algorithm}created=1402170695,headers="{parts}",signature={signature}'
+    return asks(text, request, now, keys="rsa", records="of-rsa-key")
+
+
+RSA_THREE = (
+    'admitted "my-rsa-key"\\nrequest rsa-sha256 ["(request-target)","(created)","date"] 1402170695 -\\n'
+)
 
 HTTP = "refused Http."
 INCOMPATIBLE = HTTP + "IncompatibleAlgorithm\\n"
@@ -250,6 +511,15 @@ LOOSE = (
     ",headers=(request-target) (created) date  ,signature=+/8="
 )
 SEVEN = request_lines(["(created)"], "7")
+RSA_RUNS = [
+    ("three lines under an RSA key", rsa_three(), 0, RSA_THREE),
+    ("three lines without an algorithm", rsa_three(""), 0, RSA_THREE),
+    ("an RSA hash that the ring doesn't name", rsa_three('algorithm="rsa-sha512",'), 1, INCOMPATIBLE),
+    ("a curve's algorithm under an RSA key", rsa_three('algorithm="ecdsa-sha256",'), 1, INCOMPATIBLE),
+    ("another signature under an RSA key", rsa_three(signature='"AAAA"'), 1, NOT_SIGNED),
+    ("no checks for a header text", rsa_three(now="1402170694") + "|--checks|none", 1, EARLY),
+    ("strict checks for a header text", rsa_three() + "|--checks|strict", 0, RSA_THREE),
+]
 E9 = three(parts="(request-target) x-latin")
 
 HEADER_RUNS = [
@@ -304,7 +574,7 @@ HEADER_RUNS = [
     ("a request one byte too long", asks(three(), "long"), 4, "bad request TooLong\\n"),
     ("a request of the greatest length", asks(three(), "full"), 4, "bad request BadHead\\n"),
     ("a request that is not held", asks(three(), "nowhere"), 3, "cannot read request\\n"),
-    ("keys are checked before the request", asks(three(), "head-cut", keys="object"), 4, "bad keys Jwk.Unbuilt\\n"),
+    ("keys are checked before the request", asks(three(), "head-cut", keys="object"), 4, "bad keys Jwk.Json\\n"),
     ("a request twice", asks(three()) + "|--request|head", 2, USAGE),
     ("a bad request, for a token", words(FIRST) + "|--request|head-cut", 4, "bad request BadHead\\n"),
     ("a token over a request", words(FIRST) + "|--request|head", 0, ADMITTED),
@@ -318,7 +588,7 @@ FILE_RUNS = [
     ("neither file is there", words(FIRST, keys="nowhere", records="nowhere"), 3, "cannot read keys\\n"),
     ("a folder for keys", words(FIRST, keys="."), 3, "cannot read keys\\n"),
     ("a folder for records", words(FIRST, records="."), 3, "cannot read records\\n"),
-    ("an empty keys file", words(FIRST, keys="empty"), 4, "bad keys Jwk.Unbuilt\\n"),
+    ("an empty keys file", words(FIRST, keys="empty"), 4, "bad keys Jwk.Json\\n"),
     ("an empty records file", words(FIRST, records="empty"), 1, SIGNATURE),
     ("a keys file that is no text", words(FIRST, keys="latin"), 4, "bad keys Utf8\\n"),
     ("three lines of a request file", asks(three()), 0, COVERS_THREE),
@@ -349,7 +619,7 @@ def print_texts():
 
 def print_runs():
     print("# The program over documents in memory")
-    for name, call, status, text in RUNS + HEADER_RUNS:
+    for name, call, status, text in RUNS + FAMILY_RUNS + HEADER_RUNS + RSA_RUNS:
         row(name, f"gate.run {call}", f"{status} {text}")
     print()
     print("# Each room for the first row's output")
@@ -359,7 +629,7 @@ def print_runs():
     row("room for the usage", "gate.run_in 6", "2 0 usage\\n")
     print()
     print("# A document that is put again, in the place of what was there, and one that was not there")
-    row("other keys are put", f"gate.run_over keys {b'{}'.hex()} {words(FIRST)}", "4 bad keys Jwk.Unbuilt\\n")
+    row("other keys are put", f"gate.run_over keys {b'{}'.hex()} {words(FIRST)}", "4 bad keys Jwk.Json\\n")
     missing = words(FIRST, keys="nowhere")
     row("keys are put where none were", f"gate.run_over nowhere {document('keys').hex()} {missing}", f"0 {ADMITTED}")
 
@@ -370,7 +640,7 @@ def print_cabinets():
         row(f"fetch {call} is to fail", f"gate.run_failing {call} {words(FIRST)}", f"{status} {text}")
     for name, call, status, text in [
         ("the first row over it", words(FIRST), 0, ADMITTED),
-        ("keys that it holds not are empty", words(FIRST, keys="nowhere"), 4, "bad keys Jwk.Unbuilt\\n"),
+        ("keys that it holds not are empty", words(FIRST, keys="nowhere"), 4, "bad keys Jwk.Json\\n"),
         ("records that it holds not are empty", words(FIRST, records="nowhere"), 1, SIGNATURE),
     ]:
         row(name, f"gate.run_fixed {call}", f"{status} {text}")

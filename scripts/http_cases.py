@@ -1,12 +1,13 @@
 #!/usr/bin/env python3
-"""Prints the rows of `http` of `token_rows`: header texts, request heads and signing strings.
+"""Prints the rows of `http` and `request` of `token_rows`: header texts, request heads, signing strings, and what requests answer.
 
-Each is made from the rules that docs/DEFINITIONS.md maps, by splitting and joining Python's own texts. The rows
-stand in crates/token_rows/stdout.
+Each is made from the rules that docs/DEFINITIONS.md maps, by splitting and joining Python's own texts; paths of targets are
+those of `urllib.parse`. The rows stand in crates/token_rows/stdout.
 """
 import base64
 import re
 import string
+import urllib.parse
 
 WHITE_SPACE = "\t\n\x0b\x0c\r \x85\xa0\u1680\u2000\u2001\u2002\u2003\u2004\u2005\u2006\u2007\u2008\u2009\u200a\u2028\u2029\u202f\u205f\u3000"
 NAMES = {
@@ -138,12 +139,17 @@ def answer(head, name):
     return ", ".join(trim(v.decode()) for v in values)
 
 
+def start(head):
+    """The method and the target of a head, without its query."""
+    return lower(head[0]), head[1].partition("?")[0]
+
+
 def line(part, special, r, head):
     if not special:
         said = answer(head, part)
     elif part == "(request-target)":
         answer(head, "")
-        said = lower(head[0]) + " " + head[1].partition("?")[0]
+        said = " ".join(start(head))
     else:
         said = r[part.strip("()")]
         if said is None:
@@ -221,6 +227,53 @@ def verify_rows():
         source = word(given.encode()) if given is not None else "none" if data is None else word(data)
         moment = "-" if now is None else str(now)
         print(f"{name}: http.{way} {moment} {leeway} {source} {word(recorded.encode())} {word(signature)} {text} => {said}")
+
+
+def uri_head(head):
+    """The head as `Parts` and `Request` of the crate `http` keep it: its target is a path."""
+    method, target, fields = head
+    if "://" in target:
+        target = urllib.parse.urlsplit(target).path or "/"
+    elif target != "*" and not target.startswith("/"):
+        target = ""
+    return method, re.split("[?#]", target)[0], fields
+
+
+def seen_as(kind, data):
+    return {"head": lambda h: h, "none": lambda h: None}.get(kind, uri_head)(head_of(data))
+
+
+def shown_line(head):
+    return " ".join(['Unexpected { reason: "no request" }'] * 2 if head is None else map(quoted, start(head)))
+
+
+def shown_values(head, name):
+    try:
+        return quoted(answer(head, name))
+    except Refused as refusal:
+        return str(refusal)[len("SigningStringGeneration { source: ") : -2]
+
+
+def shown_check(head, now, leeway, recorded, signature, text):
+    try:
+        return verified(now, leeway, head, None, recorded, signature, text)
+    except Refused as refusal:
+        return str(refusal)
+
+
+def request_rows():
+    print("# Requests, each as a head, as `Parts` and as `Request`, and no request: Python's texts, and paths by its urllib: scripts/http_cases.py")
+    for name, data, names in REQUESTS:
+        for kind in KINDS if data is FOO else KINDS[:3]:
+            head = seen_as(kind, data)
+            print(f"{name}, {kind}: request.line {kind} {word(data)} => {shown_line(head)}")
+            for asked in names:
+                print(f"{name}, {asked or 'the empty name'}, {kind}: request.values {kind} {word(data)} {asked} => {shown_values(head, asked)}")
+    for name, now, leeway, data, _, recorded, signature, text in REQUEST_CHECKS:
+        for kind in KINDS if "created)" in recorded else KINDS[:3]:
+            said = shown_check(seen_as(kind, data), now, leeway, recorded, signature, text)
+            moment = "-" if now is None else str(now)
+            print(f"{name}, {kind}: request.verify {kind} {word(data)} {moment} {leeway} {word(recorded.encode())} {word(signature)} {text} => {said}")
 
 
 S = 'keyId="k1",signature="AAAA"'
@@ -431,9 +484,44 @@ CHECKS = [
     check("a given string and dates", 'Signature keyId="k1",created=8,signature="AAAA"', "any", 7, data=None, given="any"),
 ]
 
+KINDS = ("head", "parts", "request", "none")
+REQUESTS = [
+    ("a request", FOO, ["host", "DATE", "cache-control", "x-emptyheader", "X-Example", "absent", "X-BYTES", ""]),
+    ("no query", head(b"A: 1", start=b"GET /a/b HTTP/1.1"), ["a"]),
+    ("a method of its own", head(start=b"x-Own / HTTP/1.1"), []),
+    ("an empty query", head(start=b"DELETE /a? HTTP/1.1"), []),
+    ("two question marks", head(start=b"PUT /a?b?c HTTP/1.1"), []),
+    ("an absolute target", head(start=b"GET http://example.org/a?b HTTP/1.1"), []),
+    ("an absolute target without a path", head(start=b"GET http://example.org HTTP/1.1"), []),
+    ("an asterisk target", head(start=b"OPTIONS * HTTP/1.1"), []),
+    ("an authority target", head(start=b"CONNECT example.org:443 HTTP/1.1"), []),
+    ("a fragment", head(start=b"GET /a#b HTTP/1.1"), []),
+    ("repeated fields", head(b"A: 1", b"B: 2", b"a:\t3 ", b"A:", b"A: 4, 5"), ["a", "B"]),
+    ("one of two values past ASCII", head(b"A: 1", b"a: caf\xc3\xa9", b"B: 2"), ["A", "b"]),
+    ("a tab inside a value", head(b"A: x\ty"), ["a"]),
+]
+REQUEST_CHECKS = [c for c in CHECKS if c[3] is FOO and c[0] in (
+    "the lines of a request",
+    "the lines joined by CR LF",
+    "the query isn't covered",
+    "another signature",
+    "an absent header has an empty line",
+    "an absent header isn't dropped",
+    "a covered value with the byte E9",
+    "the first line without an answer decides",
+    "the same in the other order",
+)] + [
+    check("a covered absolute target", 'Signature keyId="k1",headers="(request-target)",signature="AAAA"', "(request-target): get http://example.org/a", 7, data=head(start=b"GET http://example.org/a?b HTTP/1.1")),
+    check("its path alone", 'Signature keyId="k1",headers="(request-target)",signature="AAAA"', "(request-target): get /a", 7, data=head(start=b"GET http://example.org/a?b HTTP/1.1")),
+    check("a covered asterisk target", 'Signature keyId="k1",headers="(request-target)",signature="AAAA"', "(request-target): options *", 7, data=head(start=b"OPTIONS * HTTP/1.1")),
+    check("created alone", 'Signature keyId="k1",created=7,signature="AAAA"', "(created): 7", 7, data=head()),
+]
+
 if __name__ == "__main__":
     read_rows()
     print()
     head_rows()
     print()
     verify_rows()
+    print()
+    request_rows()

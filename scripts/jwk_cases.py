@@ -1,8 +1,9 @@
 #!/usr/bin/env python3
-"""Prints rows of crates/jwk_rows over JSON Web Keys and their sets.
+"""Prints rows of crates/jwk_rows over JSON Web Keys, their sets and headers of signed tokens.
 
 - Forms: each member absent, null, a text, a number, a list and an object, at keys of every type; the answer is the rule of RFC 7517, RFC 7518 and
   RFC 8037 that the row's name says. What is written back is python's json of the members that the rule keeps, sorted by name, without white space.
+- Headers: each member of RFC 7515 section 4.1 in the same forms; a member without a field is kept as it is.
 - Real keys: made by python's `cryptography` for this run and thrown away, test keys that protect nothing. Their JSON Web Keys are of the numbers that
   `cryptography` gives, their SubjectPublicKeyInfo is the one that `cryptography` writes.
 
@@ -273,12 +274,113 @@ def refusal_rows(keys):
     row("a curve that isn't known here", "of", spki(other), 'UnsupportedAlgorithm { algorithm: "Unsupported EC curve" }')
 
 
+HEADER = {"alg": "EdDSA"}
+HEADER_TEXTS = ["jku", "typ", "cty", "kid", "x5u", "x5t", "x5t#S256"]
+REGISTERED = ["alg", "jku", "jwk", "typ", "cty", "kid", "x5u", "x5c", "x5t", "x5t#S256", "x5t#s256"]
+SIGNATURES = ALGORITHMS[:14]
+
+
+def header_row(name, call, words, answer):
+    print("%s: header_in_json.%s %s => %s" % (name, call, words, answer))
+
+
+def header_kept(header):
+    """What is written back of a header that is told: fields that aren't null, and all other members as they are."""
+    found = {name: value for name, value in header.items() if name not in REGISTERED}
+    for name in REGISTERED[:-1]:
+        if header.get(name) is not None:
+            found[name] = header[name]
+    if header.get("jwk") is not None:
+        found["jwk"] = kept(header["jwk"])
+    if header.get("x5t#s256") is not None:
+        found["x5t#S256"] = header["x5t#s256"]
+    return found
+
+
+def header_told(name, header):
+    header_row(name, "again", compact(header), compact(header_kept(header)))
+
+
+def header_refused(name, header):
+    header_row(name, "again", header if isinstance(header, str) else compact(header), "NotOfForm")
+
+
+def header_form_rows():
+    print()
+    print("# Headers of signed tokens (RFC 7515 section 4.1): `alg` has to be there, and names an algorithm of signatures.")
+    for algorithm in SIGNATURES:
+        header_told("a header of %s" % algorithm, {"alg": algorithm})
+    header_refused("a header without alg", {"kid": "a"})
+    for form, value in [("null", None), ("a number", 5), ("a list", ["EdDSA"]), ("an object", {"EdDSA": None}), ("true", True), ("none", "none"), ("an empty text", ""), ("in other letters", "eddsa"), ("of content encryption", "A128GCM"), ("of key wrapping", "dir")]:
+        header_refused("a header whose alg is %s" % form, {"alg": value})
+
+    print()
+    print("# Optional members of headers: null is as good as absent, and isn't written back.")
+    for member in HEADER_TEXTS + ["jwk", "x5c", "x5t#s256"]:
+        header_told("a header whose %s is null" % member, {**HEADER, member: None})
+    for member in HEADER_TEXTS + ["x5t#s256"]:
+        header_told("a header whose %s is a text" % member, {**HEADER, member: "a text \u00fc"})
+        header_told("a header whose %s is empty" % member, {**HEADER, member: ""})
+        for form, value in [("a number", 5), ("a list", ["a"]), ("an object", {"a": "b"}), ("false", False)]:
+            header_refused("a header whose %s is %s" % (member, form), {**HEADER, member: value})
+    for value in [["a", "b"], [], [""]]:
+        header_told("a header whose x5c has %d texts" % len(value), {**HEADER, "x5c": value})
+    for form, value in [("a text", "a"), ("a number", 5), ("an object", {}), ("a list with a number", ["a", 1]), ("a list with null", ["a", None]), ("a list of lists", [["a"]])]:
+        header_refused("a header whose x5c is %s" % form, {**HEADER, "x5c": value})
+    for name, key in [("an Edwards key", ED), ("an RSA key", RSA), ("a key on a curve", EC), ("an octet sequence", OCT), ("a key with all members", {**ED, "kid": "a", "use": "sig", "alg": "EdDSA", "key_ops": ["verify"], "x5c": ["b"], "x5t#s256": "c"}), ("a key with an unknown member", {**OCT, "ext": [1]})]:
+        header_told("a header whose jwk is %s" % name, {**HEADER, "jwk": key})
+    for form, value in [("a text", "oct"), ("a number", 5), ("a list of a key", [OCT]), ("an object", {}), ("a key with an unknown kty", {"kty": "foo"}), ("a key without x", {"kty": "OKP", "crv": "Ed25519"}), ("a key whose kid is a number", {**OCT, "kid": 5}), ("a set of keys", {"keys": [OCT]})]:
+        header_refused("a header whose jwk is %s" % form, {**HEADER, "jwk": value})
+
+
+def header_name_rows():
+    print()
+    print("# Two spellings of one member of headers, and members without a field, which are kept as they are.")
+    for form, first, second in [("two texts", "a", "a"), ("the first null", None, "a"), ("the second null", "a", None), ("both null", None, None)]:
+        header_refused("a header with both spellings, %s" % form, {**HEADER, "x5t#S256": first, "x5t#s256": second})
+    for form, value in [("a text", "a"), ("null", None), ("a number", 5), ("false", False), ("a list", [None, {"a": []}]), ("an object", {"alg": 1, "kid": None})]:
+        header_told("an additional member, %s" % form, {**HEADER, "ext": value})
+    header_told("critical members", {**HEADER, "crit": ["exp"], "exp": 5})
+    header_told("names in other letters", {**HEADER, "ALG": 1, "Kid": [], "X5T": None, "x5t#S257": 2, "": 3})
+    everything = {**{member: member for member in HEADER_TEXTS}, **HEADER, "jwk": ED, "x5c": ["a"], "b": 1, "a": [2]}
+    header_told("a header with all members", everything)
+    header_row("no additional members", "names", compact({name: value for name, value in everything.items() if name in REGISTERED}), "-")
+    header_row("additional members in the tree's order", "names", '{"b":1,"alg":"EdDSA","\u00fc":0,"aa":2,"B":3,"a":4,"kid":"k"}', "B a aa b \u00fc")
+    header_row("a second spelling isn't additional", "names", compact({**HEADER, "x5t#s256": "a", "ext": 1}), "ext")
+    header_row("a null member with a field isn't additional", "names", compact({**HEADER, "kid": None, "jwk": None, "ext": None}), "ext")
+    header_row("a member of a header twice, the last stands", "again", '{"alg":"none","kid":5,"alg":"EdDSA","kid":"b"}', '{"alg":"EdDSA","kid":"b"}')
+    header_row("an additional member twice, the last stands", "again", '{"ext":1,"alg":"EdDSA","ext":2}', '{"alg":"EdDSA","ext":2}')
+    header_row("an escaped name of a header", "again", '{"\\u0061lg":"EdDSA"}', '{"alg":"EdDSA"}')
+    for form, text in [("a text", '"EdDSA"'), ("null", "null"), ("a list of a header", '[{"alg":"EdDSA"}]'), ("an empty object", "{}"), ("nothing", "")]:
+        header_refused("a header that is %s" % form, text)
+
+    print()
+    print("# Headers that are written: no additional member has a field's name, and none nests deeper than 127.")
+    header_row("a new header", "new", "JWT", '{"alg":"EdDSA","cty":"JWT"}')
+    for member in REGISTERED:
+        header_row("an additional member %s" % member, "beside", member + " null", "NotOfForm")
+    for member in ["ext", "Alg", "x5t#", "crit", "enc"]:
+        header_row("an additional member %s" % member, "beside", member + " [1]", compact({**HEADER, member: [1]}))
+    deep = lambda levels: "[" * levels + "]" * levels
+    header_row("a header of 127 levels", "beside", "ext " + deep(126), '{"alg":"EdDSA","ext":%s}' % deep(126))
+    header_row("a header of 128 levels", "beside", "ext " + deep(127), "NotOfForm")
+
+    print()
+    print("# Equality of headers: all fields, and the additional members in any order.")
+    first = compact({**everything, "jwk": RSA})
+    in_reverse = json.dumps(dict(reversed(json.loads(first).items())), separators=(",", ":"), ensure_ascii=False)
+    for form, other, answer in [("itself", first, "true"), ("the order of members", in_reverse, "true"), ("another kid", compact({**everything, "jwk": RSA, "kid": "other"}), "false"), ("another key", compact(everything), "false"), ("another additional member", compact({**everything, "jwk": RSA, "a": [3]}), "false"), ("one additional member more", compact({**everything, "jwk": RSA, "c": None}), "false")]:
+        header_row("headers that differ in %s" % form if answer == "false" else "a header and %s" % form, "equal", "%s %s" % (first, other), answer)
+
+
 def main():
     keys = list(made())
     form_rows()
     set_rows()
     key_rows(keys)
     refusal_rows(keys)
+    header_form_rows()
+    header_name_rows()
 
 
 main()

@@ -133,6 +133,67 @@ def claims_rows():
         print(f"{name}: jwt.validate {now} {leeway} {claims} => {validated(claims, now, leeway)}")
 
 
+NOW = 100
+CHECKS = {"none": "ignored", "lenient": "optional", "strict": "required"}
+
+
+def checked(claim, check, claims):
+    """What a date of the claims is refused as at NOW, without leeway; None where it isn't refused."""
+    date = f"JwtDate {{ numeric_date: {NOW}, leeway: 0 }}"
+    if check == "ignored":
+        return None
+    if claim not in claims:
+        return f'RequiredClaimMissing {{ claim: "{claim}" }}' if check == "required" else None
+    at = claims[claim]
+    if isinstance(at, bool) or not isinstance(at, int) or not LEAST <= at <= GREATEST:
+        return f'InvalidRegisteredClaimType {{ claim: "{claim}" }}'
+    if claim == "nbf" and NOW < at:
+        return f"NotYetValid {{ not_before: {at}, now: {date} }}"
+    if claim == "exp" and NOW >= at:
+        return f"Expired {{ not_after: {at}, now: {date} }}"
+    return None
+
+
+def validated_by(checks, text):
+    """What `validate` answers by a validator at NOW: `nbf`, then `exp`; floats before both."""
+    claims = json.loads(text, parse_int=integer, parse_float=number)
+    if has_float(claims):
+        return "Float"
+    check = CHECKS[checks]
+    return checked("nbf", check, claims) or checked("exp", check, claims) or "Ok"
+
+
+def forms_rows():
+    print("# Forms of nbf and exp at 100, under each validator, by Python's json and integers; the other date, where it stands, meets 100")
+    for claim, other in [("nbf", '"exp":101'), ("exp", '"nbf":100')]:
+        for name, form in [
+            ("absent", None),
+            ("null", "null"),
+            ("true", "true"),
+            ("a text", '"100"'),
+            ("an empty text", '""'),
+            ("a list", "[100]"),
+            ("an object", '{"nbf":100}'),
+            ("the moment", "100"),
+            ("a second before the moment", "99"),
+            ("a second after the moment", "101"),
+            ("zero", "0"),
+            ("zero with a sign", "-0"),
+            ("the greatest i64", "9223372036854775807"),
+            ("one above the greatest i64", "9223372036854775808"),
+            ("the greatest u64", "18446744073709551615"),
+            ("one above the greatest u64", "18446744073709551616"),
+            ("the least i64", "-9223372036854775808"),
+            ("one below the least i64", "-9223372036854775809"),
+            ("a fraction", "100.5"),
+            ("an integer with a fraction", "100.0"),
+            ("an integer with an exponent", "1e2"),
+        ]:
+            text = "{" + other + "}" if form is None else f'{{"{claim}":{form},{other}}}'
+            for checks in CHECKS:
+                print(f"{claim} that is {name}, {checks}: jwt.validate_by {checks} {text} => {validated_by(checks, text)}")
+
+
 def date_rows():
     print("# Dates: inequalities of Python's integers")
     now, leeway = 100, 10
@@ -149,6 +210,41 @@ def date_rows():
 
 def url(some):
     return base64.urlsafe_b64encode(some).rstrip(b"=").decode()
+
+
+def header_rows():
+    print("# Headers that are read, whatever checks their signatures: RFC 7515, sections 4.1 and 7.1, in base64url by Python's base64")
+    names = "HS256 HS384 HS512 RS256 RS384 RS512 ES256 ES384 ES512 PS256 PS384 PS512 EdDSA ED25519"
+    for alg in names.split():
+        text = f"{url(json.dumps({'alg': alg}).encode())}.e30.AAAA"
+        print(f"a header of {alg}: jws.alg {text} => {alg}")
+        print(f"a header of {alg} without a name: jws.kid {text} => none")
+    for name, header, kid in [
+        ("a usual RSA header", '{"typ":"JWT","alg":"RS256","kid":"my-rsa-key"}', "my-rsa-key"),
+        ("an HMAC header with a name", '{"kid":"h","alg":"HS512"}', "h"),
+        ("a name that is null", '{"alg":"RS256","kid":null}', "none"),
+        ("white space in a header", ' { "alg" : "RS256" , "kid" : "k" } ', "k"),
+        ("members without a field", '{"alg":"RS256","kid":"k","crit":["b64"],"b64":false,"n":[{"n":0}]}', "k"),
+        ("a repeated name", '{"alg":"RS256","kid":"a","kid":"b"}', "b"),
+        ("a repeated algorithm", '{"alg":5,"alg":"RS256","kid":"a"}', "a"),
+        ("the signer's key", '{"alg":"RS256","kid":"k","jwk":{"kty":"RSA","n":"AQAB","e":"AQAB"}}', "k"),
+        ("a thumbprint in its second spelling", '{"alg":"RS256","kid":"k","x5t#s256":"AA"}', "k"),
+        ("an algorithm that nobody knows", '{"alg":"none"}', "Json"),
+        ("an algorithm in other letters", '{"alg":"rs256"}', "Json"),
+        ("an algorithm that is null", '{"alg":null}', "Json"),
+        ("an algorithm that is a list", '{"alg":["RS256"]}', "Json"),
+        ("no algorithm", '{"kid":"k"}', "Json"),
+        ("a name that is a number", '{"alg":"RS256","kid":5}', "Json"),
+        ("both spellings of a thumbprint", '{"alg":"RS256","x5t#S256":"AA","x5t#s256":"AA"}', "Json"),
+        ("a signer's key that is none", '{"alg":"RS256","jwk":{}}', "Json"),
+        ("a list in place of a header", '["RS256"]', "Json"),
+        ("a float among other members", '{"alg":"RS256","n":1.5}', "Float"),
+        ("a float where there is no header", '{"alg":1.5}', "Float"),
+        ("no header", "", "InvalidEncoding"),
+    ]:
+        text = f"{url(header.encode())}.e30.AAAA"
+        answer = f'InvalidEncoding {{ input: "{text}" }}' if kid == "InvalidEncoding" else kid
+        print(f"{name}: jws.kid {text} => {answer}")
 
 
 SIGNED = url(b'{"alg":"ES256","kid":"e"}') + "." + url(b'{"exp":100}')
@@ -190,7 +286,11 @@ json_rows()
 print()
 part_rows()
 print()
+header_rows()
+print()
 claims_rows()
+print()
+forms_rows()
 print()
 date_rows()
 print()

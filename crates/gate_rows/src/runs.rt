@@ -1,6 +1,6 @@
 // The program over documents and an output in memory.
 //
-//     gate.run WORDS                      STATUS TEXT, with room for 100 bytes
+//     gate.run WORDS                      STATUS TEXT, with room for 300 bytes
 //     gate.run_in ROOM WORDS              STATUS LEFT TEXT, with so much room, at most 100, and what of it is left
 //     gate.run_over PATH BYTES WORDS      STATUS TEXT, where these bytes were put under the path before
 //     gate.run_failing CALL WORDS         STATUS TEXT, where this fetch, counted from 1, is to fail
@@ -53,7 +53,7 @@ fn run_with_room(rt: &HostRuntime, words: &mut Words<'_>) -> Result<Answer> {
     let alloc = rt.alloc();
     let words = program_words(alloc, words)?;
     let mut cabinet = cabinet(rt, &words)?;
-    let mut out = MemorySink::new(alloc, 100)?;
+    let mut out = MemorySink::new(alloc, 300)?;
     let status = run(alloc, &words, &mut cabinet, &mut out);
     status_and_text(alloc, status.code, &out)
 }

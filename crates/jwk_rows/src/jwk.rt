@@ -6,7 +6,7 @@
 //     key_in_json.der TEXT        the SubjectPublicKeyInfo of the key that the text tells
 //     key_in_json.of BYTES        the key of a SubjectPublicKeyInfo, as compact text
 use anyhow::{Result, bail};
-use picky_jwk_whole::{Jwk, JwkError, JwkSet};
+use picky_jwk::{Jwk, JwkError, JwkSet};
 use picky_key_der::PublicKey;
 use rows::{Answer, Words};
 use std::alloc::Global;

@@ -1,6 +1,7 @@
-//! Rows over JSON Web Keys and their sets: lines that name a call and its arguments, answered by what the call gives.
+//! Rows over JSON Web Keys, their sets and headers of signed tokens: lines that name a call and its arguments, answered by what the call gives.
 #![tactic(auto)]
 
+mod header;
 mod jwk;
 
 use anyhow::{Result, bail};
@@ -13,6 +14,7 @@ struct JwkCalls;
 impl Calls for JwkCalls {
     fn answer(alloc: Global, notion: &str, call: &str, words: &mut Words<'_>) -> Result<Answer> {
         match notion {
+            "header_in_json" => header::answer(alloc, call, words),
             "key_in_json" => jwk::answer(alloc, call, words),
             _ => bail!("no such notion"),
         }

@@ -15,11 +15,10 @@ use Rattle.picky_http.specs.Refusals.{reading_table}
 use Rattle.picky_http.specs.Verifying.{checked_table, verify_table, answers_of, asked_of, Setup, Using}
 use Rattle.picky_http.specs.laws.Verifying.{verified_is_checked}
 use Rattle.picky_gate.specs.declared.policy.Policy.{Policy}
-use Rattle.picky_gate.specs.declared.ring.RingEntry.{RingEntry}
+use Rattle.picky_ring.specs.declared.ring.RingEntry.{RingEntry}
+use Rattle.picky_ring.specs.TextMap.{TextMap}
 use Rattle.picky_gate.specs.Admissible.{NamedKey, IsKeyUnder}
-use Rattle.picky_gate.specs.Entry.{public}
 use Rattle.picky_gate.specs.Refusals.{Cause, no_key, of_http, header_table}
-use Rattle.picky_gate.specs.TextMap.{TextMap}
 
 -- a verifier of this reading, where a key, a request and a leeway are set, and a moment that may be absent
 abbrev pub with_moment : {Q : Type 0} → Reading → Using → Q → ℕ → Option ℕ → Setup Q
@@ -42,18 +41,17 @@ pub at_none : {Q : Type 0} (e : Setup Q) (r : Reading) (m : Using) (q : Q) (leew
 at_none e r m q leeway now set is = set ∙ ap (λ (o : Option ℕ). with_moment r m q leeway o) (sym is)
 
 -- it says the rows from the algorithm on
-pub checked : {Q : Type 0} (signs : Relation) (answer : Q → List ℕ → Answer) (method target : Q → Answer) (s : Setup Q) (r : Reading) (key given : PublicKeyKind) (algorithm : SignatureAlgorithm) (q : Q) (leeway : ℕ) (now : Option ℕ) (result : Result ⊤ HttpSignatureError)
-    → given ≡ key → s ≡ with_moment r (record { key = given; algorithm = algorithm }) q leeway now → Meets (λ u. u) http_fault result (verify_table signs answer method target s)
+pub checked : {Q : Type 0} (signs : Relation) (answer : Q → List ℕ → Answer) (method target : Q → Answer) (s : Setup Q) (r : Reading) (key : PublicKeyKind) (algorithm : SignatureAlgorithm) (q : Q) (leeway : ℕ) (now : Option ℕ) (result : Result ⊤ HttpSignatureError)
+    → s ≡ with_moment r (record { key = key; algorithm = algorithm }) q leeway now → Meets (λ u. u) http_fault result (verify_table signs answer method target s)
     → Meets (λ u. u) http_fault result (checked_table signs key algorithm (answers_of (request_of answer method target q)) now leeway r)
-checked {Q = Q} signs answer method target s r key given algorithm q leeway now result same is said =
-    let under = leads_meets (λ u. u) http_fault result _ _ (verified_is_checked signs answer method target r now leeway (record { key = given; algorithm = algorithm }) q)
-    (subst (λ (t : Setup Q). Meets (λ u. u) http_fault result (verify_table signs answer method target t)) is said) in
-    subst (λ (k : PublicKeyKind). Meets (λ u. u) http_fault result (checked_table signs k algorithm (answers_of (request_of answer method target q)) now leeway r)) same under
+checked {Q = Q} signs answer method target s r key algorithm q leeway now result is said =
+    leads_meets (λ u. u) http_fault result _ _ (verified_is_checked signs answer method target r now leeway (record { key = key; algorithm = algorithm }) q)
+    (subst (λ (t : Setup Q). Meets (λ u. u) http_fault result (verify_table signs answer method target t)) is said)
 
 -- a header text with a reading and a key, which isn't accepted
 pub header_refuses : (signs : Relation) (ring : TextMap RingEntry) (policy : Policy) (asked : Request) (text : List ℕ) (r : Reading) (key : NamedKey) (o : Option HttpFault) (cause : Option Cause)
     → (reading_table text).gives r → (the (IsKeyUnder ring (Some r.key_id)) no_key).gives key
-    → IfSome o (checked_table signs (public key.entry) key.algorithm (answers_of asked) policy.now policy.leeway r).refuses → cause ≡ option_map of_http o
+    → IfSome o (checked_table signs key.key key.algorithm (answers_of asked) policy.now policy.leeway r).refuses → cause ≡ option_map of_http o
     → IfSome cause (header_table signs ring policy asked text).refuses
 unfolding header_table
 header_refuses signs ring policy asked text r key None cause reads named due is = subst (λ (c : Option Cause). IfSome c (header_table signs ring policy asked text).refuses) (sym is) tt

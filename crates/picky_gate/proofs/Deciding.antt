@@ -11,7 +11,14 @@ use Rattle.picky_records.specs.Reading as records
 use Rattle.picky_records.specs.Records.{AreRecords}
 use Rattle.picky_records.specs.laws.Exact as exact
 use Rattle.picky_records.specs.laws.Records.{records_are, records_hold}
-use Rattle.picky_jwk.specs.Refusals.{unbuilt}
+use Rattle.picky_members.specs.Members.{TextOf}
+use Rattle.picky_jwk_key.specs.Refusals.{json}
+use Rattle.picky_jwk.specs.Jwk.{JwkSetOf}
+use Rattle.picky_jwk.specs.Refusals.{json_table}
+use Rattle.picky_ring.specs.declared.ring.RingEntry.{RingEntry}
+use Rattle.picky_ring.specs.Refusals.{of_jwk}
+use Rattle.picky_ring.specs.TextMap.{TextMap}
+use Rattle.picky_ring.specs.laws.Rings.{ring_exact, ring_holds, ring_from}
 use Rattle.picky_http_request.specs.declared.head.RequestField.{RequestField}
 use Rattle.picky_http_request.specs.declared.head.RequestHead.{RequestHead}
 use Rattle.picky_http_request.specs.Heads.{Head, RequestOf, head_view, field_view, values_of, head_answer, head_method, head_target}
@@ -21,17 +28,14 @@ use Rattle.picky_gate.specs.Request.{asked_of, values_under}
 use Rattle.picky_gate.specs.declared.documents.Document.TheVariants as document
 use Rattle.picky_gate.specs.declared.documents.Documents.{Documents}
 use Rattle.picky_gate.specs.declared.policy.Policy.{Policy}
-use Rattle.picky_gate.specs.declared.ring.RingEntry.{RingEntry}
 use Rattle.picky_gate.specs.Admissible.{Admission, SchemeAdmissible}
 use Rattle.picky_gate.specs.Command.{Admit}
-use Rattle.picky_gate.specs.Documents.{limit, text_table, records_table, keys_table, head_table, request_table, request_decision, keys_decision, decision, IsRequest, IsAdmissible}
+use Rattle.picky_gate.specs.Documents.{limit, text_table, records_table, set_table, keys_table, head_table, request_table, request_decision, keys_decision, decision, KeysOf, IsRequest, IsAdmissible}
 use Rattle.picky_gate.specs.Faults.{too_long, not_utf8, of_keys, of_records, bad_head, bad, refused}
 use Rattle.picky_gate.specs.Lines.{IsPrintable}
 use Rattle.picky_gate.specs.Moment.{policy_of}
 use Rattle.picky_gate.specs.Refusals.{admits_table}
-use Rattle.picky_gate.specs.Ring.{FirstRingOf}
 use Rattle.picky_gate.specs.Scheme.{Scheme, bearer, header_text}
-use Rattle.picky_gate.specs.TextMap.{TextMap}
 use Rattle.picky_gate.proofs.Admitting.{admits_exact, to_admissible, from_admissible}
 
 text_exact : (doc : List ℕ) → Exact (text_table doc)
@@ -45,9 +49,22 @@ records_exact : (doc : List ℕ) → Exact (records_table doc)
 unfolding records_table
 records_exact doc = then_exact _ _ (text_exact doc) (λ text. named_exact of_records (records.records_table text) (exact.records_exact text))
 
+set_exact : (text : List ℕ) → Exact (set_table text)
+unfolding set_table
+set_exact text = then_exact _ _ (named_exact of_jwk (json_table JwkSetOf text) (the_exact (TextOf JwkSetOf text) json)) (λ keys. ring_exact keys)
+
 keys_exact : (doc : List ℕ) → Exact (keys_table doc)
 unfolding keys_table
-keys_exact doc = then_exact _ _ (text_exact doc) (λ text. the_exact (FirstRingOf text) (of_keys unbuilt))
+keys_exact doc = then_exact _ _ (text_exact doc) (λ text. named_exact of_keys (set_table text) (set_exact text))
+
+-- the table of a keys document says the same as its words
+to_keys : (text : List ℕ) (ring : TextMap RingEntry) → (set_table text).holds ring → KeysOf text ring
+unfolding set_table
+to_keys text ring (keys, tells, is_ring) = record { keys = keys; tells = tells; ring_of = ring_holds keys ring is_ring }
+
+from_keys : (text : List ℕ) (ring : TextMap RingEntry) → KeysOf text ring → (set_table text).holds ring
+unfolding set_table
+from_keys text ring k = (k.keys, k.tells, ring_from k.keys ring k.ring_of)
 
 head_exact : (doc : List ℕ) → Exact (head_table doc)
 unfolding head_table
@@ -90,7 +107,7 @@ to_words c docs a (records, (rs, (u, records_fit, (v, records_utf8, rs_is)), are
   keys_fit = keys_fit;
   keys_utf8 = keys_utf8;
   ring = ring;
-  is_ring = subst (λ (d : List ℕ). FirstRingOf d ring) ks_is is_ring;
+  is_ring = subst (λ (d : List ℕ). KeysOf d ring) ks_is (to_keys ks ring is_ring);
   head = head;
   is_request = request_is docs.request head is_head;
   admissible = to_admissible (signs_by records) ring (policy_of c) (asked_of head) c.text a admits;
@@ -101,12 +118,12 @@ unfolding decision keys_decision request_decision records_table keys_table text_
 from_words c docs a h = (
   h.records,
   (docs.records, (tt, h.records_fit, (tt, h.records_utf8, refl)), records_hold docs.records h.records h.are_records),
-  (h.ring, (docs.keys, (tt, h.keys_fit, (tt, h.keys_utf8, refl)), h.is_ring), (h.head, is_request docs.request h.head h.is_request, from_admissible (signs_by h.records) h.ring (policy_of c) (asked_of h.head) c.text a h.admissible)),
+  (h.ring, (docs.keys, (tt, h.keys_fit, (tt, h.keys_utf8, refl)), from_keys docs.keys h.ring h.is_ring), (h.head, is_request docs.request h.head h.is_request, from_admissible (signs_by h.records) h.ring (policy_of c) (asked_of h.head) c.text a h.admissible)),
 )
 
 -- what is admissible is printed: the claims of a token are float-free
 printed : (signs : Relation) (ring : TextMap RingEntry) (policy : Policy) (asked : Request) (scheme : Scheme) (a : Admission) → SchemeAdmissible signs ring policy asked scheme a → IsPrintable a
-printed signs ring policy asked (bearer text) a h = subst IsPrintable (sym h.is) h.has_claims.free
+printed signs ring policy asked (bearer text) a h = subst IsPrintable (sym h.is) h.free
 printed signs ring policy asked (header_text text) a h = subst IsPrintable (sym h.is) tt
 
 pub printable : (c : Admit) (docs : Documents) (a : Admission) → (decision c docs).gives a → IsPrintable a

@@ -2,13 +2,10 @@ pub mod Pieces
 pub mod Fetching
 pub mod Values
 pub mod Moments
-pub mod TextMaps
-pub mod ClaimsLemmas
-pub mod Vouching
 pub mod Admitting
 pub mod Causes
+pub mod Vouching
 pub mod Schemes
-pub mod Rings
 pub mod Delivery
 pub mod Deciding
 pub mod Theorem

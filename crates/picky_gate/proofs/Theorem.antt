@@ -1,11 +1,13 @@
 -- What the program says is what the decision says of the documents that the cabinet tells.
-use Rattle.std.proofs.Common.{◌≡◌, inl, inr, ◌≤◌, ◌<◌, ◌+◌, ◌⊎◌, ℕ, List, [], ◌∷◌, take, codes, Option, Some, None, refl, ap, ◌∙◌, sym, subst, arith}
+use Rattle.std.proofs.Common.{◌≡◌, inl, inr, ◌≤◌, ◌<◌, ◌+◌, ◌⊎◌, ℕ, List, [], ◌∷◌, take, length, codes, Option, Some, None, refl, ap, ◌∙◌, sym, subst, arith}
 use Rattle.picky_contract.specs.laws.Tables.{Leads}
 use Rattle.picky_gate.specs.declared.documents.Document.{Document}
 use Rattle.picky_gate.specs.declared.documents.Document.TheVariants.{Keys, Records, Request}
 use Rattle.picky_gate.specs.declared.documents.Documents.{Documents}
 use Rattle.picky_gate.specs.Admissible.{Admission}
-use Rattle.picky_gate.specs.Command.{Text, Admit, IsCommand, IsItself, IsNumber, StandsAtMostOnce}
+use Rattle.picky_gate.specs.declared.asked.Checks.{Checks}
+use Rattle.picky_gate.specs.declared.asked.Checks.TheVariants.{Strict, Lenient, NoChecks}
+use Rattle.picky_gate.specs.Command.{Text, Admit, IsCommand, IsItself, IsNumber, IsChecks, StandsAtMostOnce}
 use Rattle.picky_gate.specs.Documents.{limit, decision, IsAdmissible}
 use Rattle.picky_gate.specs.Faults.{Why, bad, refused}
 use Rattle.picky_gate.specs.Headline.{Tells, TellsIf, IsTaken, Says}
@@ -35,6 +37,29 @@ one_path flag words (Some m) (Some n) h k =
     let texts : k.0 ≡ h.0 = cc (h.1, k.1) in
     ap Some (k.2 ∙ texts ∙ sym h.2)
 
+-- words of other lengths are no one text
+differ : {X : Type 0} (text u a b : Text) → u ≡ text → text ≡ a → u ≡ b → ¬ (length b ≡ length a) → X
+differ text u a b e h k longer = absurd (longer (ap length (sym k ∙ e ∙ h)))
+
+same_checks : (text u : Text) (m n : Checks) → u ≡ text → IsChecks text m → IsChecks u n → n ≡ m
+same_checks text u Strict Strict e h k = refl
+same_checks text u Strict Lenient e h k = differ text u (codes "strict") (codes "lenient") e h k (λ l. let n : 7 ≡ 6 = l in omega (arith, n))
+same_checks text u Strict NoChecks e h k = differ text u (codes "strict") (codes "none") e h k (λ l. let n : 4 ≡ 6 = l in omega (arith, n))
+same_checks text u Lenient Strict e h k = differ text u (codes "lenient") (codes "strict") e h k (λ l. let n : 6 ≡ 7 = l in omega (arith, n))
+same_checks text u Lenient Lenient e h k = refl
+same_checks text u Lenient NoChecks e h k = differ text u (codes "lenient") (codes "none") e h k (λ l. let n : 4 ≡ 7 = l in omega (arith, n))
+same_checks text u NoChecks Strict e h k = differ text u (codes "none") (codes "strict") e h k (λ l. let n : 6 ≡ 4 = l in omega (arith, n))
+same_checks text u NoChecks Lenient e h k = differ text u (codes "none") (codes "lenient") e h k (λ l. let n : 7 ≡ 4 = l in omega (arith, n))
+same_checks text u NoChecks NoChecks e h k = refl
+
+one_checks : (flag : Text) (words : List Text) (m n : Option Checks) → StandsAtMostOnce IsChecks flag words m → StandsAtMostOnce IsChecks flag words n → n ≡ m
+one_checks flag words None None h k = refl
+one_checks flag words None (Some n) h k = let no : [] ≡ k.0 ∷ [] = sym h ∙ k.1 in absurd cc
+one_checks flag words (Some m) None h k = let no : [] ≡ h.0 ∷ [] = sym k ∙ h.1 in absurd cc
+one_checks flag words (Some m) (Some n) h k =
+    let texts : k.0 ≡ h.0 = cc (h.1, k.1) in
+    ap Some (same_checks h.0 k.0 m n texts h.2 k.2)
+
 -- words are one command at most
 pub one_command : (words : List Text) (c d : Admit) → IsCommand words c → IsCommand words d → d ≡ c
 one_command [] c d first second = absurd first
@@ -45,7 +70,8 @@ one_command (w ∷ words) c d first second =
     let now : d.now ≡ c.now = one_number 19 9223372036854775807 (codes "--now") words c.now d.now first.1.now second.1.now in
     let leeway : d.leeway ≡ c.leeway = one_number 5 65535 (codes "--leeway") words c.leeway d.leeway first.1.leeway second.1.leeway in
     let request : d.request ≡ c.request = one_path (codes "--request") words c.request d.request first.1.request second.1.request in
-    λ i. record { keys = keys i; records = records i; text = text i; request = request i; now = now i; leeway = leeway i }
+    let checks : d.checks ≡ c.checks = one_checks (codes "--checks") words c.checks d.checks first.1.checks second.1.checks in
+    λ i. record { keys = keys i; records = records i; text = text i; request = request i; now = now i; leeway = leeway i; checks = checks i }
 
 -- a text that was not cut was written whole, with its status
 not_six : (text : List ℕ) (code room status : ℕ) (before after : Option (List ℕ)) → Delivers text code room before after status → ¬ (status ≡ 6) → (status ≡ code) × Adds before text after

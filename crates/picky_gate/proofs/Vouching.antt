@@ -1,39 +1,28 @@
--- What the rows of a signature say of a token's vouching.
-use Rattle.std.proofs.Common.{◌≡◌, Option, Some, None, IfSome, MatchOption, inl, sym, ◌∙◌, ap, subst}
-use Rattle.picky_key.specs.Signatures.{Relation, bad}
-use Rattle.picky_jwk.specs.declared.alg.JwsAlg.{JwsAlg}
-use Rattle.picky_jwk.specs.declared.alg.JwsAlg.TheVariants.{EdDSA}
-use Rattle.picky_jose.specs.Refusals.{TokenReading}
-use Rattle.picky_jose.specs.Signatures.{signed_table}
-use Rattle.picky_jose.specs.Faults.{JwsFault, signature, jws}
+-- What a token whose signature holds comes to by its claims.
+use Rattle.std.proofs.Common.{◌≡◌, ℕ, List, Option, IfSome, option_map, refl, sym, subst}
+use Rattle.serde_json.specs.Data.{Data}
+use Rattle.picky_contract.specs.Refusals.{done}
+use Rattle.picky_contract.specs.laws.Tables.{up}
+use Rattle.picky_jose.specs.Claims.{IsItself, claims_table, told_table}
+use Rattle.picky_jose.specs.Faults.{JwtFault}
+use Rattle.picky_jws_header.specs.Header.{Header}
 use Rattle.picky_jose.specs.Validator.{Validator}
-use Rattle.picky_jose.specs.laws.Vouching.{signed_holds, signed_fails}
-use Rattle.picky_gate.specs.declared.admission.Refusal.{Refusal}
-use Rattle.picky_gate.specs.declared.admission.Refusal.TheVariants.{OutOfMemory}
-use Rattle.picky_gate.specs.declared.ring.RingEntry.{RingEntry}
-use Rattle.picky_gate.specs.Admissible.{FirstText, NamedKey, TokenVouched}
-use Rattle.picky_gate.specs.Entry.{public}
-use Rattle.picky_gate.specs.Refusals.{Cause, of_token, cause_of, judged_table}
+use Rattle.picky_jose.specs.Views.{Content}
+use Rattle.picky_jose.specs.laws.Claims.{itself_leads}
+use Rattle.picky_gate.specs.Admissible.{token}
+use Rattle.picky_gate.specs.Refusals.{Cause, of_token, claimed_table}
+use Rattle.picky_gate.proofs.Causes.{stops}
 
--- a token whose signature holds is vouched for
-pub vouched : (t : FirstText) (signs : Relation) (entry : RingEntry) (alg : JwsAlg) → TokenReading t.reading t.token → alg ≡ t.reading.header.alg → (signed_table signs (public entry) alg t.token).gives tt → TokenVouched signs entry t
-vouched t signs entry alg r is gives =
-    let name : alg ≡ EdDSA = is ∙ ap (λ h. h.alg) r.header.is in
-    (r, signed_holds t.reading t.token signs (public entry) r (subst (λ (a : JwsAlg). (signed_table signs (public entry) a t.token).gives tt) name gives))
+-- its claims are read
+pub claimed_gives : (v : Validator) (name : List ℕ) (k u : Content) (h : Header) (c : Data) → u ≡ k → h ≡ u.header → (told_table IsItself v u.payload).gives c → (claimed_table v name k.header k.payload).gives (token name h c)
+unfolding claimed_table
+claimed_gives v name k u h c same is read =
+    subst (λ (x : Content). (claimed_table v name x.header x.payload).gives (token name h c)) same
+    (subst (λ (g : Header). (claimed_table v name u.header u.payload).gives (token name g c)) (sym is) (c, (itself_leads v u.payload).gives c read, refl))
 
-unvouched : (t : FirstText) (signs : Relation) (entry : RingEntry) (f : JwsFault) → TokenReading t.reading t.token → (signed_table signs (public entry) EdDSA t.token).refuses f → (f ≡ signature bad) × (¬ (TokenVouched signs entry t))
-unvouched t signs entry f r due = ((signed_fails t.reading t.token signs (public entry) r f due).0, λ v. (signed_fails t.reading t.token signs (public entry) v.0 f due).1 v.1)
-
-judged_refuses : (t : FirstText) (signs : Relation) (validator : Validator) (key : NamedKey) (f : JwsFault) → (f ≡ signature bad) × (¬ (TokenVouched signs key.entry t)) → (judged_table signs validator t key).refuses (of_token (jws f))
-unfolding judged_table
-judged_refuses t signs validator key f (is, none) = inl (ap (λ (g : JwsFault). of_token (jws g)) is, none)
-
--- a token whose signature doesn't hold, where the error is taken over
-pub judged_meets : (t : FirstText) (signs : Relation) (validator : Validator) (key : NamedKey) (alg : JwsAlg) (f : Option JwsFault) (r : Refusal) → TokenReading t.reading t.token → alg ≡ t.reading.header.alg
-    → IfSome f (signed_table signs (public key.entry) alg t.token).refuses → MatchOption f (r ≡ OutOfMemory) (λ g. cause_of r ≡ Some (of_token (jws g)))
-    → IfSome (cause_of r) (judged_table signs validator t key).refuses
-judged_meets t signs validator key alg None r reads is due same = subst (λ (q : Refusal). IfSome (cause_of q) (judged_table signs validator t key).refuses) (sym same) tt
-judged_meets t signs validator key alg (Some f) r reads is due same =
-    let name : alg ≡ EdDSA = is ∙ ap (λ h. h.alg) reads.header.is in
-    let known = subst (λ (a : JwsAlg). (signed_table signs (public key.entry) a t.token).refuses f) name due in
-    subst (λ (q : Option Cause). IfSome q (judged_table signs validator t key).refuses) (sym same) (judged_refuses t signs validator key f (unvouched t signs key.entry f reads known))
+-- they aren't, where the error is taken over
+pub claimed_meets : (v : Validator) (name : List ℕ) (k u : Content) (o : Option JwtFault) (cause : Option Cause) → u ≡ k → IfSome o (told_table IsItself v u.payload).refuses → cause ≡ option_map of_token o → IfSome cause (claimed_table v name k.header k.payload).refuses
+unfolding claimed_table
+claimed_meets v name k u o cause same due is =
+    subst (λ (x : Content). IfSome cause (claimed_table v name x.header x.payload).refuses) same
+    (stops of_token (claims_table v u.payload) (λ (c : Data). done (token name u.header c)) o cause (up o _ _ (itself_leads v u.payload).refuses due) is)

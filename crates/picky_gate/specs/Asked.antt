@@ -12,7 +12,7 @@ seconds_of now = option_map (λ m. m.seconds) now
 
 -- what is asked, without where its texts lie
 abbrev pub admit_of : AdmitWords → Admit
-admit_of w = record { keys = w.keys.now; records = w.records.now; text = w.text.now; request = option_map (λ p. p.now) w.request; now = seconds_of w.now; leeway = w.leeway }
+admit_of w = record { keys = w.keys.now; records = w.records.now; text = w.text.now; request = option_map (λ p. p.now) w.request; now = seconds_of w.now; leeway = w.leeway; checks = w.checks }
 
 -- how many values there are
 abbrev pub AreValues : List Text → Values → Type 0

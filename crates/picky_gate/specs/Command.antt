@@ -3,6 +3,8 @@ use Rattle.std.specs.Prelude.{◌≡◌, ◌<◌, ◌≤◌, ℕ, ◌⊎◌, Lis
 use Rattle.std.specs.Str.{bytes_eq, all_ascii_digits}
 use Rattle.std.specs.Str.Parse.{digits_value}
 use Rattle.std.specs.declared.alloc.Global.{Global}
+use Rattle.picky_gate.specs.declared.asked.Checks.{Checks}
+use Rattle.picky_gate.specs.declared.asked.Checks.TheVariants.{Strict, Lenient, NoChecks}
 
 -- a text, as its UTF-8 bytes
 abbrev pub Text : Type 0
@@ -47,11 +49,17 @@ IsMoment = IsNumber 19 9223372036854775807
 abbrev pub IsLeeway : Text → ℕ → Type 0
 IsLeeway = IsNumber 5 65535
 
+-- the text is the word of these checks
+abbrev pub IsChecks : Text → Checks → Type 0
+IsChecks text Strict = text ≡ codes "strict"
+IsChecks text Lenient = text ≡ codes "lenient"
+IsChecks text NoChecks = text ≡ codes "none"
+
 -- ---- `admit`
 
 -- the flags of `admit`
 abbrev pub IsFlag : Text → Type 0
-IsFlag name = (name ≡ codes "--keys") ⊎ (name ≡ codes "--records") ⊎ (name ≡ codes "--text") ⊎ (name ≡ codes "--request") ⊎ (name ≡ codes "--now") ⊎ (name ≡ codes "--leeway")
+IsFlag name = (name ≡ codes "--keys") ⊎ (name ≡ codes "--records") ⊎ (name ≡ codes "--text") ⊎ (name ≡ codes "--request") ⊎ (name ≡ codes "--now") ⊎ (name ≡ codes "--leeway") ⊎ (name ≡ codes "--checks")
 
 -- the words are flags and values in turn
 abbrev pub ArePairs : List Text → Type 0
@@ -59,8 +67,8 @@ ArePairs [] = Unit {0}
 ArePairs (name ∷ value ∷ rest) = IsFlag name × ArePairs rest
 ArePairs (name ∷ []) = ⊥
 
--- what `admit` is asked: the paths of its documents, the text, and the request's path, the moment and the leeway, where
--- they are given
+-- what `admit` is asked: the paths of its documents, the text, and the request's path, the moment, the leeway and the checks of
+-- dates, where they are given
 pub record Admit : Type 0 where
   pub keys : Text
   pub records : Text
@@ -68,6 +76,7 @@ pub record Admit : Type 0 where
   pub request : Option Text
   pub now : Option ℕ
   pub leeway : Option ℕ
+  pub checks : Option Checks
 
 -- the words ask this of `admit`: its flags in any order
 pub record AsksAdmit (words : List Text) (a : Admit) : Type 0 where
@@ -78,6 +87,7 @@ pub record AsksAdmit (words : List Text) (a : Admit) : Type 0 where
   pub request : StandsAtMostOnce IsItself (codes "--request") words a.request
   pub now : StandsAtMostOnce IsMoment (codes "--now") words a.now
   pub leeway : StandsAtMostOnce IsLeeway (codes "--leeway") words a.leeway
+  pub checks : StandsAtMostOnce IsChecks (codes "--checks") words a.checks
 
 -- the words are this command of the program
 abbrev pub IsCommand : List Text → Admit → Type 0

@@ -5,8 +5,13 @@ use Rattle.picky_records.specs.declared.line.Line.{Line}
 use Rattle.picky_records.specs.Meanings.{signs_by}
 use Rattle.picky_records.specs.Reading as records
 use Rattle.picky_records.specs.Records.{AreRecords}
-use Rattle.picky_jwk.specs.Refusals.{unbuilt}
-use Rattle.picky_gate.specs.declared.ring.RingEntry.{RingEntry}
+use Rattle.picky_members.specs.Members.{TextOf}
+use Rattle.picky_jwk.specs.Jwk.{Jwk, JwkSetOf}
+use Rattle.picky_jwk.specs.Refusals.{json_table}
+use Rattle.picky_ring.specs.declared.ring.RingEntry.{RingEntry}
+use Rattle.picky_ring.specs.Refusals.{KeysRefusal, of_jwk, ring_table}
+use Rattle.picky_ring.specs.Ring.{RingOfJwks}
+use Rattle.picky_ring.specs.TextMap.{TextMap}
 use Rattle.picky_http_request.specs.Heads.{Head, RequestOf}
 use Rattle.picky_http.specs.Lines.{Request}
 use Rattle.picky_gate.specs.declared.documents.Document.TheVariants as document
@@ -16,9 +21,7 @@ use Rattle.picky_gate.specs.Command.{Admit}
 use Rattle.picky_gate.specs.Faults.{Flaw, too_long, not_utf8, of_keys, of_records, bad_head, Why, bad, refused}
 use Rattle.picky_gate.specs.Moment.{policy_of}
 use Rattle.picky_gate.specs.Refusals.{admits_table}
-use Rattle.picky_gate.specs.Ring.{FirstRingOf}
 use Rattle.picky_gate.specs.Request.{asked_of}
-use Rattle.picky_gate.specs.TextMap.{TextMap}
 
 -- the greatest length of a document in bytes
 abbrev pub limit : ℕ
@@ -41,11 +44,17 @@ records_table doc = do
   text ← text_table doc
   named of_records (records.records_table text)
 
+-- a text that tells a set of keys, and its ring
+unfoldable pub set_table : List ℕ → Table (TextMap RingEntry) KeysRefusal
+set_table text = do
+  keys ← named of_jwk (json_table JwkSetOf text)
+  ring_table keys
+
 -- a keys document, and its ring
 unfoldable pub keys_table : List ℕ → Table (TextMap RingEntry) Flaw
 keys_table doc = do
   text ← text_table doc
-  the (FirstRingOf text) (of_keys unbuilt)
+  named of_keys (set_table text)
 
 -- a request document, and the head that it begins with
 unfoldable pub head_table : List ℕ → Table Head Flaw
@@ -88,6 +97,12 @@ IsRequest None None = Unit {0}
 IsRequest (Some doc) (Some head) = (length doc ≤ limit) × RequestOf doc head
 IsRequest _ _ = ⊥
 
+-- the keys document is a set of keys, and this is its ring
+pub record KeysOf (doc : List ℕ) (ring : TextMap RingEntry) : Type 0 where
+  pub keys : List Jwk
+  pub tells : TextOf JwkSetOf doc keys
+  pub ring_of : RingOfJwks keys ring
+
 -- the text is admissible as this over the documents, each within the limit and of its grammar
 pub record IsAdmissible (c : Admit) (docs : Documents) (a : Admission) : Type 0 where
   pub records_fit : length docs.records ≤ limit
@@ -97,7 +112,7 @@ pub record IsAdmissible (c : Admit) (docs : Documents) (a : Admission) : Type 0 
   pub keys_fit : length docs.keys ≤ limit
   pub keys_utf8 : IsUtf8 docs.keys
   pub ring : TextMap RingEntry
-  pub is_ring : FirstRingOf docs.keys ring
+  pub is_ring : KeysOf docs.keys ring
   pub head : Option Head
   pub is_request : IsRequest docs.request head
   pub admissible : Admissible (signs_by records) ring (policy_of c) (asked_of head) c.text a

@@ -2,7 +2,7 @@
 use Rattle.std.specs.Prelude.{Option, Some, None, option_map}
 use Rattle.picky_records.specs.Reading as records
 use Rattle.picky_records.specs.declared.error.RecordFault.{RecordFault}
-use Rattle.picky_jwk.specs.Refusals as jwk
+use Rattle.picky_ring.specs.Refusals.{KeysRefusal, keys_fault}
 use Rattle.picky_http_request.specs.Heads as heads
 use Rattle.picky_gate.specs.declared.documents.Document.{Document}
 use Rattle.picky_gate.specs.declared.documents.DocumentFault.{DocumentFault}
@@ -15,14 +15,14 @@ use Rattle.picky_gate.specs.Refusals.{Cause, cause_of}
 pub data Flaw : Type 0 where
   too_long : Flaw
   not_utf8 : Flaw
-  of_keys : jwk.Fault → Flaw
+  of_keys : KeysRefusal → Flaw
   of_records : RecordFault → Flaw
   bad_head : Flaw
 
 abbrev pub flaw_of : DocumentFault → Option Flaw
 flaw_of of_document.TooLong = Some too_long
 flaw_of of_document.Utf8 = Some not_utf8
-flaw_of (of_document.Jwk error) = option_map of_keys (jwk.fault error)
+flaw_of (of_document.Keys fault) = option_map of_keys (keys_fault fault)
 flaw_of (of_document.Records error) = option_map of_records (records.fault error)
 flaw_of (of_document.Head error) = option_map (λ _. bad_head) (heads.head_fault error)
 flaw_of of_document.OutOfMemory = None

@@ -1,12 +1,8 @@
 pub mod Outside
-pub mod TextMap
 pub mod Shelf
 pub mod Command
 pub mod Asked
-pub mod Entry
-pub mod Ring
 pub mod Scheme
-pub mod Claims
 pub mod Admissible
 pub mod Refusals
 pub mod Seen

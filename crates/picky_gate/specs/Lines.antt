@@ -4,9 +4,9 @@ use Rattle.serde_json.specs.Data.{Data}
 use Rattle.serde_json.specs.Written.{compact_text}
 use Rattle.picky_json.specs.Text.{json_text}
 use Rattle.picky_json.specs.Tree.{FloatFree}
-use Rattle.picky_jwk.specs.declared.alg.JwsAlg.{JwsAlg}
-use Rattle.picky_jwk.specs.Names.{alg_name}
-use Rattle.picky_jwk.specs.Refusals as jwk
+use Rattle.picky_jwk_names.specs.declared.alg.JwsAlg.{JwsAlg}
+use Rattle.picky_jwk_names.specs.Names.{alg_name}
+use Rattle.picky_jwk_key.specs.Refusals as jwk
 use Rattle.picky_jose.specs.Faults as jose
 use Rattle.picky_http.specs.Faults as http
 use Rattle.picky_http.specs.Parts.{covered}
@@ -17,6 +17,7 @@ use Rattle.picky_key.specs.Words.{algorithm_word}
 use Rattle.std.specs.Fmt.{decimal}
 use Rattle.picky_records.specs.declared.error.RecordFault.{RecordFault}
 use Rattle.picky_records.specs.declared.error.RecordFault.TheVariants.{BadLine, Family, Conflict, OutOfMemory}
+use Rattle.picky_ring.specs.Refusals as ring
 use Rattle.picky_gate.specs.declared.documents.Document.{Document}
 use Rattle.picky_gate.specs.declared.documents.Document.TheVariants.{Keys, Records, Request}
 use Rattle.picky_gate.specs.Admissible.{Admission, token, request}
@@ -102,10 +103,20 @@ cause_text (of_token fault) = jwt_text fault
 cause_text unbuilt = codes "Unbuilt"
 cause_text inner_memory = codes "OutOfMemory"
 
-abbrev pub keys_text : jwk.Fault → List ℕ
-keys_text jwk.not_base64 = codes "Jwk.Base64Decoding"
-keys_text jwk.bad_ed_key = codes "Jwk.InvalidEdPublicKey"
-keys_text jwk.unbuilt = codes "Jwk.Unbuilt"
+abbrev pub jwk_text : jwk.Fault → List ℕ
+jwk_text jwk.json = codes "Jwk.Json"
+jwk_text jwk.not_base64 = codes "Jwk.Base64Decoding"
+jwk_text (jwk.unsupported algorithm) = codes "Jwk.UnsupportedAlgorithm"
+jwk_text jwk.bad_ec_key = codes "Jwk.InvalidEcPublicKey"
+jwk_text jwk.bad_coordinates = codes "Jwk.InvalidEcPointCoordinates"
+jwk_text jwk.bad_ed_key = codes "Jwk.InvalidEdPublicKey"
+
+-- the fault of a keys document; want of memory, which no table names, is that of no line
+abbrev pub keys_text : ring.KeysRefusal → List ℕ
+keys_text (ring.of_jwk fault) = jwk_text fault
+keys_text (ring.wrong_family name) = codes "AlgorithmFamily"
+keys_text (ring.duplicate_name name) = codes "DuplicateName"
+keys_text ring.inner_memory = codes "OutOfMemory"
 
 -- the fault of a records document and its line; want of memory, which no table names, has no text
 abbrev pub records_text : RecordFault → List ℕ

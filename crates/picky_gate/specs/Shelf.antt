@@ -2,7 +2,7 @@
 use Rattle.std.specs.Prelude.{ℕ, ◌+◌, ◌-◌, ◌^◌, min, List, [], ◌∷◌, ◌++◌, Contains, Option, Some, None, length, take, refl}
 use Rattle.std.specs.Coded.{Coded, code_by, coded×, coded_list, coded_ℕ}
 use Rattle.std.specs.FinMap as finite
-use Rattle.picky_gate.specs.TextMap.{TextMap}
+use Rattle.picky_ring.specs.TextMap.{TextMap}
 
 -- the bytes under each path, the paths that were asked for so far, the faults, how many calls there were, and which
 -- calls fail, counted from 1

@@ -51,7 +51,7 @@ pub enum Refusal {
     Token(JwtError),
     #[error("out of memory")]
     OutOfMemory,
-    /// The text's form isn't built yet.
+    /// The text is an encrypted token, which isn't built yet.
     #[error("this form of text isn't built yet")]
     Unbuilt,
 }
@@ -83,12 +83,11 @@ impl From<HttpSignatureError> for Refusal {
 }
 
 impl From<JwtError> for Refusal {
-    ghost use Rattle.std.specs.Prelude.{◌≡◌, Some, MatchOption};
+    ghost use Rattle.std.specs.Prelude.{◌≡◌, option_map};
     ghost use Rattle.picky_jose.specs.Faults.{jwt_fault};
-    ghost use Rattle.picky_gate.specs.declared.admission.Refusal.TheVariants.{OutOfMemory};
     ghost use Rattle.picky_gate.specs.Refusals.{cause_of, of_token};
 
-    ghost from_gives = { λ error refusal. MatchOption (jwt_fault error) (refusal ≡ OutOfMemory) (λ f. cause_of refusal ≡ Some (of_token f)) };
+    ghost from_gives = { λ error refusal. cause_of refusal ≡ option_map of_token (jwt_fault error) };
 
     #[tactic(auto, using(crate::proofs::Causes::jwt_held))]
     fn from(error: JwtError) -> Refusal {
@@ -100,12 +99,11 @@ impl From<JwtError> for Refusal {
 }
 
 impl From<JwsError> for Refusal {
-    ghost use Rattle.std.specs.Prelude.{◌≡◌, Some, MatchOption};
-    ghost use Rattle.picky_jose.specs.Faults.{jws_fault, jws};
-    ghost use Rattle.picky_gate.specs.declared.admission.Refusal.TheVariants.{OutOfMemory};
-    ghost use Rattle.picky_gate.specs.Refusals.{cause_of, of_token};
+    ghost use Rattle.std.specs.Prelude.{◌≡◌, option_map};
+    ghost use Rattle.picky_jose.specs.Faults.{jws_fault};
+    ghost use Rattle.picky_gate.specs.Refusals.{cause_of, of_jws};
 
-    ghost from_gives = { λ error refusal. MatchOption (jws_fault error) (refusal ≡ OutOfMemory) (λ f. cause_of refusal ≡ Some (of_token (jws f))) };
+    ghost from_gives = { λ error refusal. cause_of refusal ≡ option_map of_jws (jws_fault error) };
 
     #[tactic(auto, using(crate::proofs::Causes::jws_held))]
     fn from(error: JwsError) -> Refusal {
@@ -150,11 +148,14 @@ fn decide<P: KeyProvider, Q: HttpRequest>(
 /// covered part, in order, of `MissingRequiredParameter` or `SigningStringGeneration`; of `Base64Decoding`; of
 /// `Signature` where the provider's relation doesn't hold.
 ///
-/// Of a token: `Unbuilt` where it has no first token reading, or the
-/// policy's validator isn't lenient with a date; `NoKey` where its `kid` names no key of the ring; `Token` of
-/// `Jws` of `Signature` where the provider's relation doesn't hold; `Unbuilt` where the claims haven't the first
-/// form; `Token` of `Expired` where the validator's date isn't before `exp` plus its leeway. `OutOfMemory` may
-/// come instead.
+/// Of a token: `Unbuilt` where it is an encrypted one, which has four dots or more; `Token` of `Jws` of `InvalidEncoding` where it
+/// isn't cut into three parts, the first and the last not empty; of `Base64Decoding` of the header; of `Json` where that isn't JSON, of
+/// `Float` where a number of it is held as a float, of `Json` where it is no header; of `Base64Decoding` of the signature, then of
+/// the payload; `NoKey` where its `kid` names no key with an algorithm; `Token` of `Jws` of `Signature` where its `alg` has
+/// no signature algorithm, where an ECDSA signature hasn't the size of its name, then where the provider's relation doesn't hold; of
+/// `InvalidValidator` where a date is required and the validator has none; of `Json` where the claims aren't JSON; of `Float`; and of the refusals
+/// of `nbf`, then of `exp`: `RequiredClaimMissing`, `InvalidRegisteredClaimType`, then `NotYetValid` or `Expired`. `OutOfMemory`
+/// may come instead.
 pub fn admit<P: KeyProvider, Q: HttpRequest>(
     alloc: Global,
     authorization: &str,

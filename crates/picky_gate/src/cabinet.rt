@@ -5,8 +5,8 @@ ghost use Rattle.picky_gate.specs.Command.{texts_of};
 ghost use Rattle.picky_gate.specs.Outside.{IsFetched, FetchCause, FetchAsks};
 ghost use Rattle.picky_gate.specs.Shelf.{counted, called, noted, FailsNext};
 
-use crate::text_map::{look_up, put};
 use picky_contract::Bytes;
+use picky_ring::text_map::{look_up, put};
 use std::alloc::{AllocError, Global};
 use std::collections::BTreeMap;
 use std::marker::Model;
@@ -90,7 +90,7 @@ pub struct MemoryCabinet {
 impl Model for MemoryCabinet {
     ghost use Rattle.picky_gate.specs.Command.{texts_of};
     ghost use Rattle.picky_gate.specs.Shelf.{Shelf, shelf_code};
-    ghost use Rattle.picky_gate.specs.TextMap.{by_text};
+    ghost use Rattle.picky_ring.specs.TextMap.{by_text};
 
     ghost Value = { Shelf };
 

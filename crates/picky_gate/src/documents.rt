@@ -2,17 +2,20 @@
 ghost use Rattle.std.specs.Prelude.{◌≡◌, option_map};
 ghost use Rattle.picky_http_request.specs.Heads.{head_view};
 ghost use Rattle.picky_http.specs.Lines.{request_of};
-ghost use Rattle.picky_contract.specs.Refusals.{Meets};
+ghost use Rattle.picky_contract.specs.Refusals.{Meets, named};
+ghost use Rattle.picky_jwk.specs.Jwk.{JwkSetOf};
+ghost use Rattle.picky_jwk.specs.Refusals.{json_table};
+ghost use Rattle.picky_jwk.specs.Views.{set_view};
+ghost use Rattle.picky_ring.specs.Refusals.{keys_fault, of_jwk};
 ghost use Rattle.picky_gate.specs.Asked.{admit_of};
 ghost use Rattle.picky_gate.specs.Faults.{flaw_of, why_of};
-ghost use Rattle.picky_gate.specs.Documents.{text_table, records_table, keys_table, head_table, request_table, text_decision, request_decision, keys_decision, decision};
+ghost use Rattle.picky_gate.specs.Documents.{text_table, records_table, set_table, keys_table, head_table, request_table, text_decision, request_decision, keys_decision, decision};
 ghost use Rattle.picky_gate.specs.Refusals.{admission_of};
 
-use crate::first_ring::first_ring;
-use crate::{AdmitWords, Admitted, Refusal, Ring, admit};
+use crate::{AdmitWords, Admitted, KeysFault, Refusal, Ring, admit, ring_from_jwks};
 use picky_contract::Bytes;
 use picky_http_request::{HeadFault, HttpRequest, NoRequest, RequestHead, read_head};
-use picky_jwk::JwkError;
+use picky_jwk::JwkSet;
 use picky_records::{RecordFault, Recorded};
 use std::alloc::{AllocError, Global};
 use std::str;
@@ -41,7 +44,7 @@ pub struct Documents {
 pub enum DocumentFault {
     TooLong,
     Utf8,
-    Jwk(JwkError),
+    Keys(KeysFault),
     Records(RecordFault),
     Head(HeadFault),
     OutOfMemory,
@@ -93,14 +96,36 @@ fn read_records(alloc: Global, document: &[u8]) -> Result<Recorded, DocumentFaul
     }
 }
 
+// The set of keys that a text tells.
+fn set_of(alloc: Global, text: &str) -> Result<JwkSet, KeysFault>
+    ensures { Meets set_view keys_fault result (named of_jwk (json_table JwkSetOf text.now)) }
+{
+    match JwkSet::from_json(alloc, text) {
+        Ok(set) => Ok(set),
+        Err(error) => Err(KeysFault::from(error)),
+    }
+}
+
+// The ring of the set of keys that a text tells.
+#[tactic(auto, unfolding(crate::specs::Documents::set_table))]
+fn ring_of(alloc: Global, text: &str) -> Result<Ring, KeysFault>
+    ensures { Meets (λ r. r) keys_fault result (set_table text.now) }
+{
+    let set = match set_of(alloc, text) {
+        Ok(set) => set,
+        Err(fault) => return Err(fault),
+    };
+    ring_from_jwks(alloc, &set)
+}
+
 #[tactic(auto, unfolding(crate::specs::Documents::keys_table))]
 fn read_keys(alloc: Global, document: &[u8]) -> Result<Ring, DocumentFault>
     ensures { Meets (λ r. r) flaw_of result (keys_table document.now) }
 {
     match text_of(document) {
-        Ok(text) => match first_ring(alloc, text)? {
-            Some(ring) => Ok(ring),
-            None => Err(DocumentFault::Jwk(JwkError::Unbuilt)),
+        Ok(text) => match ring_of(alloc, text) {
+            Ok(ring) => Ok(ring),
+            Err(fault) => Err(DocumentFault::Keys(fault)),
         },
         Err(fault) => Err(fault),
     }

@@ -6,9 +6,9 @@ ghost use Rattle.picky_gate.specs.Outside.{IsFetched, FetchCause, FetchAsks};
 ghost use Rattle.picky_gate.specs.Shelf.{or_nothing};
 
 use crate::cabinet::{first_bytes, note};
-use crate::text_map::{look_up, put};
 use crate::{Cabinet, FetchFault};
 use picky_contract::Bytes;
+use picky_ring::text_map::{look_up, put};
 use std::alloc::{AllocError, Global};
 use std::collections::BTreeMap;
 use std::marker::Model;
@@ -25,7 +25,7 @@ pub struct FixedCabinet {
 impl Model for FixedCabinet {
     ghost use Rattle.picky_gate.specs.Command.{texts_of};
     ghost use Rattle.picky_gate.specs.Shelf.{Fixed, fixed_code};
-    ghost use Rattle.picky_gate.specs.TextMap.{by_text};
+    ghost use Rattle.picky_ring.specs.TextMap.{by_text};
 
     ghost Value = { Fixed };
 

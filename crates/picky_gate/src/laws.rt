@@ -3,9 +3,9 @@ ghost use Rattle.std.specs.Prelude.{◌≡◌, ℕ, List};
 ghost use Rattle.picky_key.specs.Signatures.{Relation};
 ghost use Rattle.picky_http.specs.Lines.{Request};
 ghost use Rattle.picky_gate.specs.declared.policy.Policy.{Policy};
-ghost use Rattle.picky_gate.specs.declared.ring.RingEntry.{RingEntry};
+ghost use Rattle.picky_ring.specs.declared.ring.RingEntry.{RingEntry};
+ghost use Rattle.picky_ring.specs.TextMap.{TextMap};
 ghost use Rattle.picky_gate.specs.Admissible.{Admission, Admissible};
-ghost use Rattle.picky_gate.specs.TextMap.{TextMap};
 
 use picky_key::KeyProvider;
 

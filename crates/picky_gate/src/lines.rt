@@ -9,18 +9,20 @@ ghost use Rattle.picky_http.specs.Parts.{part_of, covered};
 ghost use Rattle.picky_http.specs.Reading.{reading_of};
 ghost use Rattle.picky_http.specs.Signing.{part_text};
 ghost use Rattle.picky_jose.specs.Faults.{jws_fault, jwt_fault};
-ghost use Rattle.picky_jwk.specs.Refusals.{fault as jwk_fault};
-ghost use Rattle.picky_gate.specs.Faults.{flaw_of, why_of, bad, refused};
-ghost use Rattle.picky_gate.specs.Lines.{number_text as number_of, texts_json, request_text, http_text, token_text, admitted_text, IsPrintable, document_text, jws_text, jwt_text, cause_text, why_status, why_text};
+ghost use Rattle.picky_jwk_key.specs.Refusals.{fault as jwk_fault};
+ghost use Rattle.picky_ring.specs.Refusals.{keys_fault};
+ghost use Rattle.picky_gate.specs.Faults.{flaw_of, of_keys, why_of, bad, refused};
+ghost use Rattle.picky_gate.specs.Lines.{number_text as number_of, texts_json, request_text, http_text, token_text, admitted_text, IsPrintable, document_text, jwk_text, keys_text, jws_text, jwt_text, cause_text, why_status, why_text};
 ghost use Rattle.picky_gate.specs.Refusals.{admission_of, cause_of};
 
 use crate::documents::{Document, DocumentFault, Fault};
-use crate::{Admitted, Refusal};
+use crate::{Admitted, KeysFault, Refusal};
 use picky_http::{Header, HttpSignature, HttpSignatureError};
 use picky_http_request::{HeadFault, HttpRequestError};
 use picky_jose::{JwsError, JwtError};
 use picky_json::{compact, json_text_of};
-use picky_jwk::{JwkError, JwsAlg};
+use picky_jwk::JwkError;
+use picky_jwk_names::JwsAlg;
 use picky_key::SignatureAlgorithm;
 use picky_records::RecordFault;
 use serde_json::Value;
@@ -204,6 +206,39 @@ fn refused_line(alloc: Global, refusal: &Refusal) -> Result<String, AllocError>
     format!(in alloc; "refused {code}\n")
 }
 
+fn jwk_code(error: &JwkError) -> Result<&'static str, AllocError>
+    ensures { IfOk result (λ code. IsSomeAnd (jwk_fault error.now) (λ fault. code.now ≡ jwk_text fault)) }
+{
+    match error {
+        JwkError::Json => Ok("Jwk.Json"),
+        JwkError::Base64Decoding => Ok("Jwk.Base64Decoding"),
+        JwkError::UnsupportedAlgorithm { .. } => Ok("Jwk.UnsupportedAlgorithm"),
+        JwkError::InvalidEcPublicKey { .. } => Ok("Jwk.InvalidEcPublicKey"),
+        JwkError::InvalidEcPointCoordinates => Ok("Jwk.InvalidEcPointCoordinates"),
+        JwkError::InvalidEdPublicKey { .. } => Ok("Jwk.InvalidEdPublicKey"),
+        JwkError::OutOfMemory => Err(AllocError),
+    }
+}
+
+fn keys_code(fault: &KeysFault) -> Result<&'static str, AllocError>
+    ensures { IfOk result (λ code. IsSomeAnd (keys_fault fault.now) (λ refusal. code.now ≡ keys_text refusal)) }
+{
+    match fault {
+        KeysFault::Jwk(error) => jwk_code(error),
+        KeysFault::AlgorithmFamily { .. } => Ok("AlgorithmFamily"),
+        KeysFault::DuplicateName { .. } => Ok("DuplicateName"),
+        KeysFault::OutOfMemory => Err(AllocError),
+    }
+}
+
+fn keys_line(alloc: Global, document: Document, fault: &KeysFault) -> Result<String, AllocError>
+    ensures { IfOk result (λ text. IsSomeAnd (keys_fault fault.now) (λ refusal. string_bytes text ≡ why_text (bad document (of_keys refusal)))) }
+{
+    let name = document_name(document);
+    let code = keys_code(fault)?;
+    format!(in alloc; "bad {name} {code}\n")
+}
+
 fn bad_line(alloc: Global, document: Document, fault: &DocumentFault) -> Result<String, AllocError>
     ensures { IfOk result (λ text. IsSomeAnd (flaw_of fault.now) (λ flaw. string_bytes text ≡ why_text (bad document flaw))) }
 {
@@ -211,13 +246,7 @@ fn bad_line(alloc: Global, document: Document, fault: &DocumentFault) -> Result<
     match fault {
         DocumentFault::TooLong => format!(in alloc; "bad {name} TooLong\n"),
         DocumentFault::Utf8 => format!(in alloc; "bad {name} Utf8\n"),
-        DocumentFault::Jwk(JwkError::Base64Decoding) => {
-            format!(in alloc; "bad {name} Jwk.Base64Decoding\n")
-        }
-        DocumentFault::Jwk(JwkError::InvalidEdPublicKey { .. }) => {
-            format!(in alloc; "bad {name} Jwk.InvalidEdPublicKey\n")
-        }
-        DocumentFault::Jwk(JwkError::Unbuilt) => format!(in alloc; "bad {name} Jwk.Unbuilt\n"),
+        DocumentFault::Keys(fault) => keys_line(alloc, document, fault),
         DocumentFault::Records(RecordFault::BadLine { line }) => {
             format!(in alloc; "bad {name} BadLine {line}\n")
         }
@@ -228,8 +257,7 @@ fn bad_line(alloc: Global, document: Document, fault: &DocumentFault) -> Result<
             format!(in alloc; "bad {name} Conflict {line}\n")
         }
         DocumentFault::Head(HeadFault::BadHead) => format!(in alloc; "bad {name} BadHead\n"),
-        DocumentFault::Jwk(JwkError::OutOfMemory)
-        | DocumentFault::Records(RecordFault::OutOfMemory)
+        DocumentFault::Records(RecordFault::OutOfMemory)
         | DocumentFault::Head(HeadFault::OutOfMemory)
         | DocumentFault::OutOfMemory => Err(AllocError),
     }

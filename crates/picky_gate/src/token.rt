@@ -1,56 +1,40 @@
 // Whether a token is admitted.
-ghost use Rattle.std.specs.Prelude.{◌≡◌, Some, IfOk, string_bytes};
+ghost use Rattle.std.specs.Prelude.{◌≡◌, Some, string_bytes};
+ghost use Rattle.serde_json.specs.View.{view};
 ghost use Rattle.picky_contract.specs.Refusals.{Meets, Finds};
+ghost use Rattle.picky_jose.specs.Claims.{claims_table};
+ghost use Rattle.picky_jose.specs.Faults.{jwt_fault};
 ghost use Rattle.picky_jose.specs.Refusals.{TokenReading, reading_of};
-ghost use Rattle.picky_jose.specs.Views.{header_view, jws_content, text_of};
-ghost use Rattle.picky_gate.specs.Admissible.{FirstTextOf, IsKeyUnder};
-ghost use Rattle.picky_gate.specs.Refusals.{cause_of, admission_of, token_table, judged_table, claimed_table};
-ghost use Rattle.picky_gate.specs.Seen.{first_text, key_view};
+ghost use Rattle.picky_jose.specs.Views.{jws_content, text_of};
+ghost use Rattle.picky_jws_header.specs.Views.{header_view};
+ghost use Rattle.picky_gate.specs.Admissible.{IsKeyUnder};
+ghost use Rattle.picky_gate.specs.Refusals.{cause_of, admission_of, bearer_table, signed_token_table, judged_table, claimed_table};
+ghost use Rattle.picky_gate.specs.Seen.{key_view};
 
-use crate::claims::first_claims;
 use crate::scheme::dots;
-use crate::{Admitted, KeyName, Policy, Refusal, Ring, RingEntry};
-use picky_jose::{Jws, JwsHeader, JwtValidator, RawJws};
-use picky_key::{KeyProvider, SignatureAlgorithm};
-use std::alloc::{AllocError, Global};
+use crate::{Admitted, KeyName, Policy, Refusal, Ring};
+use picky_jose::{Jws, JwsHeader, JwtSig, JwtValidator, RawJws};
+use picky_key::{KeyProvider, PublicKey, SignatureAlgorithm};
+use std::alloc::Global;
 use std::borrow::CowStr;
 
-// What was read of a token, where that has a first token reading.
-fn token_of<'a>(alloc: Global, text: &'a str) -> Result<Option<RawJws<'a>>, AllocError>
-    ensures { IfOk result (Finds first_text (FirstTextOf text.now)) }
-{
-    if dots(text) >= 4 {
-        return Ok(None);
-    }
-    match RawJws::decode(alloc, CowStr::Borrowed(text)) {
-        Ok(raw) => Ok(Some(raw)),
-        Err(error) => {
-            if error.is_out_of_memory() {
-                Err(AllocError)
-            } else {
-                Ok(None)
-            }
-        }
-    }
-}
-
-// The name, the entry under it, and the entry's algorithm.
+// The name, and the key and the algorithm with which signatures are checked under it.
 pub fn key_named<'a, 'b>(
     ring: &'a Ring,
     name: &'b str,
-) -> Option<(&'b str, &'a RingEntry, SignatureAlgorithm)>
+) -> Option<(&'b str, &'a PublicKey, SignatureAlgorithm)>
     ensures { Finds key_view (IsKeyUnder ring.now (Some name.now)) result }
 {
     let entry = ring.lookup(name)?;
-    let algorithm = entry.signature_algorithm()?;
-    Some((name, entry, algorithm))
+    let (key, algorithm) = entry.verifying()?;
+    Some((name, key, algorithm))
 }
 
 // What a header's `kid` names.
 fn key_under<'a, 'b>(
     ring: &'a Ring,
     header: &'b JwsHeader,
-) -> Option<(&'b str, &'a RingEntry, SignatureAlgorithm)>
+) -> Option<(&'b str, &'a PublicKey, SignatureAlgorithm)>
     ensures { Finds key_view (IsKeyUnder ring.now (header_view header.now).kid) result }
 {
     match &header.kid {
@@ -70,42 +54,63 @@ fn claimed(
     ensures { Meets admission_of cause_of result
         (claimed_table validator.now (string_bytes name.0) (jws_content jws).header (jws_content jws).payload) }
 {
-    let Some(claims) = first_claims(alloc, &jws.payload)? else {
-        return Err(Refusal::Unbuilt);
-    };
-    match validator.check_dates(&claims.tree) {
-        Ok(()) => Ok(Admitted::Token {
+    match JwtSig::from(jws).validate(alloc, validator) {
+        Ok(token) => Ok(Admitted::Token {
             name,
-            header: jws.header,
-            claims: claims.tree,
+            header: token.header,
+            claims: token.state.claims,
         }),
         Err(error) => Err(Refusal::from(error)),
     }
 }
 
-// What a token comes to under its entry.
+// What a token that was read comes to under its key.
 #[tactic(auto, unfolding(crate::specs::Refusals::judged_table))]
 fn judged<P: KeyProvider>(
     alloc: Global,
     token: RawJws<'_>,
     name: KeyName,
-    entry: &RingEntry,
+    key: &PublicKey,
     algorithm: SignatureAlgorithm,
     provider: &P,
     validator: &JwtValidator,
 ) -> Result<Admitted, Refusal>
     requires { TokenReading (reading_of token) (text_of token) }
     ensures { Meets admission_of cause_of result
-        (judged_table (P.signs provider.now) validator.now (first_text token.entry) (record { name = string_bytes name.0; entry = entry.now; algorithm = algorithm })) }
+        (judged_table (P.signs provider.now) validator.now (text_of token.entry) (reading_of token.entry) (record { name = string_bytes name.0; key = key.now; algorithm = algorithm })) }
 {
-    match token.verify_as_read(alloc, provider, entry.public_key()) {
+    match token.verify_as_read(alloc, provider, key) {
         Ok(jws) => claimed(alloc, name, jws, validator),
         Err(error) => Err(Refusal::from(error)),
     }
 }
 
+// What a signed token comes to.
+#[tactic(auto, unfolding(crate::specs::Refusals::signed_token_table))]
+fn decide_signed<P: KeyProvider>(
+    alloc: Global,
+    text: &str,
+    ring: &Ring,
+    provider: &P,
+    policy: &Policy,
+) -> Result<Admitted, Refusal>
+    ensures { Meets admission_of cause_of result
+        (signed_token_table (P.signs provider.now) ring.now policy.entry.now text.now) }
+{
+    let token = match RawJws::decode(alloc, CowStr::Borrowed(text)) {
+        Ok(token) => token,
+        Err(error) => return Err(Refusal::from(error)),
+    };
+    let Some((name, key, algorithm)) = key_under(ring, &token.header) else {
+        return Err(Refusal::NoKey);
+    };
+    let name = KeyName(String::from_str(alloc, name)?);
+    let validator = &policy.validator;
+    judged(alloc, token, name, key, algorithm, provider, validator)
+}
+
 /// What a token comes to, over the ring, by the provider and under the policy.
-#[tactic(auto, unfolding(crate::specs::Refusals::token_table))]
+#[tactic(auto, unfolding(crate::specs::Refusals::bearer_table))]
 pub fn decide_token<P: KeyProvider>(
     alloc: Global,
     text: &str,
@@ -114,27 +119,10 @@ pub fn decide_token<P: KeyProvider>(
     policy: &Policy,
 ) -> Result<Admitted, Refusal>
     ensures { Meets admission_of cause_of result
-        (token_table (P.signs provider.now) ring.now policy.entry.now text.now) }
+        (bearer_table (P.signs provider.now) ring.now policy.entry.now text.now) }
 {
-    let token = match token_of(alloc, text) {
-        Ok(Some(token)) => token,
-        Ok(None) => return Err(Refusal::Unbuilt),
-        Err(_) => return Err(Refusal::OutOfMemory),
-    };
-    if !policy.validator.is_lenient() {
+    if dots(text) >= 4 {
         return Err(Refusal::Unbuilt);
     }
-    let Some((name, entry, algorithm)) = key_under(ring, &token.header) else {
-        return Err(Refusal::NoKey);
-    };
-    let name = KeyName(String::from_str(alloc, name)?);
-    judged(
-        alloc,
-        token,
-        name,
-        entry,
-        algorithm,
-        provider,
-        &policy.validator,
-    )
+    decide_signed(alloc, text, ring, provider, policy)
 }

@@ -1,11 +1,12 @@
 // The words of the command line.
 ghost use Rattle.std.specs.Prelude.{◌≡◌, ◌↔◌, ℕ, Option, option_map, IsTrue, MatchOption, codes};
 ghost use Rattle.std.specs.Str.{all_ascii_digits};
-ghost use Rattle.picky_gate.specs.Command.{Text, Admit, IsCommand, AsksAdmit, ArePairs, IsFlag, IsNumber, IsMoment, IsLeeway, IsItself, StandsOnce, StandsAtMostOnce, texts_of, values_under};
+ghost use Rattle.picky_gate.specs.Command.{Text, Admit, IsCommand, AsksAdmit, ArePairs, IsFlag, IsNumber, IsMoment, IsLeeway, IsChecks, IsItself, StandsOnce, StandsAtMostOnce, texts_of, values_under};
 ghost use Rattle.picky_gate.specs.Asked.{AreValues, admit_of, seconds_of};
+ghost use Rattle.picky_gate.specs.declared.asked.Checks.{Checks as Asked};
 
 use crate::AdmitWords;
-use crate::asked::Moment;
+use crate::asked::{Checks, Moment};
 
 /// How many values stand under a flag, and the value where there is one.
 #[derive(Clone, Copy)]
@@ -41,6 +42,7 @@ fn is_flag(name: &str) -> bool
         || name == "--request"
         || name == "--now"
         || name == "--leeway"
+        || name == "--checks"
 }
 
 fn are_pairs(words: &[String]) -> bool
@@ -97,6 +99,17 @@ fn read_leeway(text: &str) -> Option<u16>
 {
     let seconds = read_number(text, 5, 65_535)?;
     Some(seconds as u16)
+}
+
+fn read_checks(text: &str) -> Option<Checks>
+    ensures { MatchOption result ((c : Asked) → IsChecks text.now c → ⊥) (λ c. IsChecks text.now c) }
+{
+    match text {
+        "strict" => Some(Checks::Strict),
+        "lenient" => Some(Checks::Lenient),
+        "none" => Some(Checks::NoChecks),
+        _ => None,
+    }
 }
 
 // The value of a flag that stands exactly once.
@@ -156,6 +169,22 @@ fn leeway_under(words: &[String]) -> Option<Option<u16>>
     }
 }
 
+// The same of the checks of dates.
+fn checks_under(words: &[String]) -> Option<Option<Checks>>
+    ensures { MatchOption result
+        ((c : Option Asked) → StandsAtMostOnce IsChecks (codes "--checks") (texts_of words.now) c → ⊥)
+        (λ c. StandsAtMostOnce IsChecks (codes "--checks") (texts_of words.now) c) }
+{
+    match values_of(words, "--checks") {
+        Values::Absent => Some(None),
+        Values::One(value) => match read_checks(value) {
+            Some(checks) => Some(Some(checks)),
+            None => None,
+        },
+        Values::Many => None,
+    }
+}
+
 /// What `admit` is asked by the words after it, if they are of its form.
 fn read_admit(words: &[String]) -> Option<AdmitWords<'_>>
     ensures { MatchOption result
@@ -171,6 +200,7 @@ fn read_admit(words: &[String]) -> Option<AdmitWords<'_>>
     let request = at_most_once(words, "--request")?;
     let now = moment_under(words)?;
     let leeway = leeway_under(words)?;
+    let checks = checks_under(words)?;
     Some(AdmitWords {
         keys,
         records,
@@ -178,6 +208,7 @@ fn read_admit(words: &[String]) -> Option<AdmitWords<'_>>
         request,
         now,
         leeway,
+        checks,
     })
 }
 

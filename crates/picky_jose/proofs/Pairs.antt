@@ -1,6 +1,6 @@
 -- The pair of an ECDSA signature, and refusals of a signature as those of a token.
 use Rattle.std.specs.Prelude.{◌≢◌, ◌*◌, ⊤, IfSome}
-use Rattle.std.proofs.Common.{◌≡◌, ℕ, ◌+◌, ◌<◌, ◌≤◌, List, [], ◌∷◌, length, take, drop, inl, inr, refl, ap, arith, length-drop}
+use Rattle.std.proofs.Common.{◌≡◌, ℕ, ◌+◌, ◌<◌, List, [], length, take, drop, inl, inr, refl, ap, arith, length-drop}
 use Rattle.std.proofs.lemmas.List.{length-take-le}
 use Rattle.picky_asn1_bits.proofs.Numbers.{IsShortest-unsigned_spelling}
 use Rattle.picky_contract.specs.Refusals.{Table, named}

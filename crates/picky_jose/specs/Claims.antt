@@ -70,6 +70,7 @@ dates_table v t = rows_at v t v.date
 abbrev pub AreInTime : Validator → Data → Type 0
 AreInTime v t = (dates_table v t).holds tt
 
+-- the claims of a payload: its tree, where that is float-free and the dates of it meet the validator
 unfoldable pub claims_table : Validator → List ℕ → Table Data JwtFault
 claims_table v payload = do
   can ← need (IsTrue (can_judge v.date v.nbf v.exp)) no_date
@@ -77,3 +78,22 @@ claims_table v payload = do
   free ← need (FloatFree t) has_float
   dates ← dates_table v t
   done t
+
+-- c is what the claims of a payload tell, as a type reads them: the payload has a float-free tree, whose dates meet the
+-- validator, and that tree tells c
+pub record ClaimsOf {C : Type 0} (Tells : Data → C → Type 0) (v : Validator) (payload : List ℕ) (c : C) : Type 0 where
+  pub tree : Data
+  pub read : Tree payload tree
+  pub free : FloatFree tree
+  pub dates : AreInTime v tree
+  pub tells : Tells tree c
+
+-- the conditions of claims that a type reads, in their order: those of claims, and that their tree tells a value
+unfoldable pub told_table : {C : Type 0} → (Data → C → Type 0) → Validator → List ℕ → Table C JwtFault
+told_table Tells v payload = do
+  t ← claims_table v payload
+  the (Tells t) no_json
+
+-- a tree that is read as it is
+abbrev pub IsItself : Data → Data → Type 0
+IsItself t c = c ≡ t

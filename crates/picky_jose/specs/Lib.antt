@@ -1,9 +1,10 @@
 pub mod Token
-pub mod Header
 pub mod Faults
 pub mod Refusals
 pub mod Signatures
+pub mod Algorithms
 pub mod Views
+pub mod Verified
 pub mod Dates
 pub mod Validator
 pub mod Claims

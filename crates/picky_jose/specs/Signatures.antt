@@ -10,8 +10,8 @@ use Rattle.picky_key.specs.Signatures.{Relation, SignatureFault, unsupported, ec
 use Rattle.picky_key_der.specs.declared.public.PublicKeyKind.{PublicKeyKind}
 use Rattle.picky_key.specs.declared.algorithm.SignatureAlgorithm.TheVariants.{RsaPkcs1v15, Ecdsa, Ed25519}
 use Rattle.picky_key.specs.declared.algorithm.HashAlgorithm.TheVariants.{SHA2_256, SHA2_384, SHA2_512}
-use Rattle.picky_jwk.specs.declared.alg.JwsAlg.{JwsAlg}
-use Rattle.picky_jwk.specs.declared.alg.JwsAlg.TheVariants as alg
+use Rattle.picky_jwk_names.specs.declared.alg.JwsAlg.{JwsAlg}
+use Rattle.picky_jwk_names.specs.declared.alg.JwsAlg.TheVariants as alg
 use Rattle.picky_jose.specs.declared.signature.Asked.{Asked}
 use Rattle.picky_jose.specs.declared.signature.Asked.TheVariants.{Nothing, Plain, Pair}
 use Rattle.picky_jose.specs.Token.{Halves, HalvesOf}
@@ -34,6 +34,17 @@ asked_by _ = Nothing
 -- 3.4; RFC 3279, section 2.2.3)
 unfoldable pub pair_der : ℕ → List ℕ → List ℕ
 pair_der size s = ecdsa_pair.encoding (pair_value (halves_of size s))
+
+-- the relation holds of the key, the signed bytes and what is asked of the signature
+abbrev pub AskedHolds : Relation → PublicKeyKind → Asked → List ℕ → List ℕ → Type 0
+AskedHolds signs key Nothing signed s = ⊥
+AskedHolds signs key (Plain algorithm) signed s = signs key algorithm signed s
+AskedHolds signs key (Pair hash curve) signed s = (length s ≡ 2 * field_size curve) × signs key (Ecdsa hash) signed (pair_der (field_size curve) s)
+
+-- a signature is accepted under a name: the relation holds of the key, the name's algorithm, the signed bytes, and what the
+-- name asks of the signature
+abbrev pub IsVouched : Relation → PublicKeyKind → JwsAlg → List ℕ → List ℕ → Type 0
+IsVouched signs key name signed s = AskedHolds signs key (asked_by name) signed s
 
 -- a signature of two numbers has twice the size of one, and stands for the DER of their pair
 unfoldable pub pair_table : ℕ → List ℕ → Table (List ℕ) SignatureFault

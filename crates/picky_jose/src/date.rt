@@ -1,6 +1,7 @@
 // Dates and the validator of claims.
 ghost use Rattle.std.specs.Prelude.{◌≡◌, ◌<ℤ◌, ◌+ℤ◌, ◌≤ℤ◌, ◌-ℤ◌, ◌↔◌, pos, IsTrue};
 ghost use Rattle.picky_jose.specs.Dates.{IsBeforeEnd, IsAtOrAfterStart};
+ghost use Rattle.picky_jose.specs.Validator.{no_check};
 
 use std::fmt;
 use std::marker::Model;
@@ -113,6 +114,13 @@ impl Model for JwtValidator {
     ghost view = { λ v. record { date = v.current_date; nbf = v.not_before; exp = v.expiration } };
 
     ghost inverse = { λ v. record { current_date = v.date; not_before = v.nbf; expiration = v.exp } };
+}
+
+/// The validator without a date, which looks at no claim.
+pub const fn no_check_validator() -> JwtValidator
+    ensures { result ≡ no_check }
+{
+    JwtValidator::no_check()
 }
 
 impl JwtValidator {

@@ -10,7 +10,7 @@ use thiserror::Error;
 /// Why a signed token isn't accepted.
 #[derive(Debug, Drop, Error)]
 pub enum JwsError {
-    /// The header isn't JSON, or not of the first form.
+    /// The header isn't JSON, or its tree tells no header.
     #[error("JSON error")]
     Json,
     /// The signature isn't accepted.

@@ -5,9 +5,10 @@ ghost use Rattle.picky_jose.specs.Faults.{jws_fault};
 
 use crate::cut::parts_of;
 use crate::error::JwsError;
-use crate::header::{JwsHeader, header_from};
-use crate::signature::{check_decoded, check_signature};
+use crate::header::header_from;
+use crate::signature::{check_decoded, verify_signature};
 use picky_base64::Form;
+use picky_jws_header::JwsHeader;
 use picky_key::{KeyProvider, PublicKey};
 use std::alloc::{AllocError, Global};
 use std::borrow::CowStr;
@@ -20,7 +21,37 @@ pub struct Jws {
 }
 
 impl Jws {
-    ghost use Rattle.picky_jose.specs.Views.{jws_content};
+    ghost use Rattle.picky_jose.specs.Views.{Content, jws_content};
+    ghost use Rattle.picky_jose.specs.Verified.{VerifiedContent, verified_table};
+
+    /// Reads a token and verifies its signature: as `RawJws::decode`, then as `RawJws::verify`. The signature is decoded once.
+    ///
+    /// The refusals of `RawJws::decode`; then `Signature`, as `RawJws::verify` has it.
+    pub fn decode<P: KeyProvider>(
+        alloc: Global,
+        encoded_token: &str,
+        provider: &P,
+        public_key: &PublicKey,
+    ) -> Result<Jws, JwsError>
+        ensures found { IfOk result (λ x. VerifiedContent (P.signs provider.now) public_key.now encoded_token.now (jws_content x)) }
+        ensures every { (x : Content) → VerifiedContent (P.signs provider.now) public_key.now encoded_token.now x → OkOrMemory jws_content jws_fault result x }
+        ensures first { Meets jws_content jws_fault result (verified_table (P.signs provider.now) public_key.now encoded_token.now) }
+    {
+        Jws::read_verified(alloc, encoded_token, provider, public_key)
+    }
+
+    #[tactic(auto, unfolding(crate::specs::Verified::verified_table))]
+    fn read_verified<P: KeyProvider>(
+        alloc: Global,
+        encoded_token: &str,
+        provider: &P,
+        public_key: &PublicKey,
+    ) -> Result<Jws, JwsError>
+        ensures { Meets jws_content jws_fault result (verified_table (P.signs provider.now) public_key.now encoded_token.now) }
+    {
+        let token = RawJws::decode(alloc, CowStr::Borrowed(encoded_token))?;
+        token.verify_as_read(alloc, provider, public_key)
+    }
 
     /// A copy, in memory of its own.
     pub fn clone(&self, alloc: Global) -> Result<Jws, AllocError>
@@ -33,7 +64,7 @@ impl Jws {
     }
 }
 
-/// A signed token that was read and not verified: its text, its header and its signature.
+/// A signed token that was read and not verified: its text, its header and its signature. It borrows its text, or owns it.
 #[derive(Debug, Drop)]
 pub struct RawJws<'repr> {
     pub compact_repr: CowStr<'repr, Global>,
@@ -41,6 +72,9 @@ pub struct RawJws<'repr> {
     pub signature: Vec<u8>,
     payload: Vec<u8>,
 }
+
+/// A signed token that was read and not verified, and owns its text.
+pub type OwnedRawJws = RawJws<'static>;
 
 impl<'repr> RawJws<'repr> {
     ghost use Rattle.std.specs.Cow.{cow_str_bytes};
@@ -50,12 +84,11 @@ impl<'repr> RawJws<'repr> {
 
     /// Reads a token `h.p.s` in compact serialization (RFC 7515, section 7.1): h is the text before
     /// the first dot, s the text after the last; neither is empty, all three are strict unpadded
-    /// base64url, and h spells a header of the first form: a JSON object with exactly the members
-    /// `alg`, which is `EdDSA`, and `kid`, a text.
+    /// base64url, and h spells a JSON object that tells a header (section 4.1), as `JwsHeader::from_tree` has it.
     ///
     /// In order: `InvalidEncoding` where the text isn't cut so; `Base64Decoding` of h; `Json` where h
-    /// spells no JSON; `Float` where a number of it is held as a float; `Json` where it is no such
-    /// header; `Base64Decoding` of s, then of p.
+    /// spells no JSON; `Float` where a number of it is held as a float; `Json` where it tells no header;
+    /// `Base64Decoding` of s, then of p.
     pub fn decode(alloc: Global, compact_repr: CowStr<'repr, Global>) -> Result<Self, JwsError>
         ensures found { IfOk result (λ x. TokenReading (reading_of x) (cow_str_bytes compact_repr.entry)) }
         ensures every { (x : Reading) → TokenReading x (cow_str_bytes compact_repr.entry) → OkOrMemory reading_of jws_fault result x }
@@ -110,6 +143,16 @@ impl<'repr> RawJws<'repr> {
         &self.payload
     }
 
+    /// The token without its signature, which isn't verified. Takes no memory.
+    pub fn discard_signature(self) -> Jws
+        ensures { jws_content result ≡ raw_content self.entry }
+    {
+        Jws {
+            header: self.header,
+            payload: self.payload,
+        }
+    }
+
     /// The token with its signature verified: the provider's relation holds of the key, the
     /// algorithm of `header.alg`, the bytes of the text before its last dot as they stand, and what
     /// the text after it spells, or for `ES256`, `ES384`, `ES512` the DER of the pair of its two halves of
@@ -128,17 +171,14 @@ impl<'repr> RawJws<'repr> {
         ensures first { Meets (λ x. tt) jws_fault result (signed_table (P.signs provider.now) public_key.now self.entry.header.alg (text_of self.entry)) }
         ensures content { IfOk result (λ x. jws_content x ≡ raw_content self.entry) }
     {
-        check_signature(
+        verify_signature(
             alloc,
+            self.compact_repr.as_str(),
             provider,
             public_key,
             self.header.alg,
-            self.compact_repr.as_str(),
         )?;
-        Ok(Jws {
-            header: self.header,
-            payload: self.payload,
-        })
+        Ok(self.discard_signature())
     }
 
     /// The same of a token that is as it was read, which the caller knows: its signature isn't decoded
@@ -163,9 +203,6 @@ impl<'repr> RawJws<'repr> {
             self.compact_repr.as_str(),
             &self.signature,
         )?;
-        Ok(Jws {
-            header: self.header,
-            payload: self.payload,
-        })
+        Ok(self.discard_signature())
     }
 }

@@ -1,10 +1,9 @@
 //! Laws of tokens: each is the contract of a function without a body.
 ghost use Rattle.std.specs.Prelude.{◌≡◌, ◌↔◌, ℕ, List};
 ghost use Rattle.picky_key_der.specs.declared.public.PublicKeyKind.{PublicKeyKind};
-ghost use Rattle.picky_key.specs.declared.algorithm.SignatureAlgorithm.TheVariants.{Ed25519};
-ghost use Rattle.picky_jwk.specs.declared.alg.JwsAlg.TheVariants.{EdDSA};
+ghost use Rattle.picky_jwk_names.specs.declared.alg.JwsAlg.{JwsAlg};
 ghost use Rattle.picky_jose.specs.Refusals.{Reading, TokenReading, signed_bytes};
-ghost use Rattle.picky_jose.specs.Signatures.{signed_table};
+ghost use Rattle.picky_jose.specs.Signatures.{IsVouched, signed_table};
 
 use picky_key::KeyProvider;
 
@@ -13,10 +12,15 @@ pub fn reading_is_determined()
     ensures { (text : List ℕ) (x y : Reading) → TokenReading x text → TokenReading y text → y ≡ x }
 {}
 
+/// A signed token's text is determined by its bytes before the last dot and its signature.
+pub fn text_is_determined()
+    ensures { (x y : Reading) (s t : List ℕ) (r : TokenReading x s) (q : TokenReading y t) → signed_bytes q ≡ signed_bytes r → y.signature ≡ x.signature → t ≡ s }
+{}
+
 /// The signature of a token that was read is accepted exactly where the relation holds of the bytes
-/// before its last dot, as they stand, and of what the text after it spells.
+/// before its last dot, as they stand, and of what the text after it spells, under every name.
 pub fn signature_is_that_of_the_reading<P: KeyProvider>(_provider: &P)
-    ensures { (key : PublicKeyKind) (text : List ℕ) (x : Reading) (r : TokenReading x text)
-        → (signed_table (P.signs _provider.now) key EdDSA text).gives tt
-        ↔ P.signs _provider.now key Ed25519 (signed_bytes r) x.signature }
+    ensures { (key : PublicKeyKind) (alg : JwsAlg) (text : List ℕ) (x : Reading) (r : TokenReading x text)
+        → (signed_table (P.signs _provider.now) key alg text).gives tt
+        ↔ IsVouched (P.signs _provider.now) key alg (signed_bytes r) x.signature }
 {}

@@ -10,7 +10,7 @@ use crate::cut::halves_of;
 use crate::error::JwsError;
 use picky_base64::Form;
 use picky_der::{DerError, to_vec};
-use picky_jwk::JwsAlg;
+use picky_jwk_names::JwsAlg;
 use picky_key::{
     EcCurve, EcdsaSignatureValue, HashAlgorithm, KeyProvider, ProviderFault, PublicKey,
     SignatureAlgorithm, SignatureError,
@@ -149,26 +149,33 @@ fn check_vouched<P: KeyProvider>(
     }
 }
 
-// Whether the text is signed: the bytes before its last dot, by what the text after it spells.
+/// Verifies the signature of a text, under a name of a JWS algorithm (RFC 7515, section 5.2): the provider's relation holds of the
+/// key, the name's algorithm, the bytes of the text before its last dot as they stand, and what the text after it spells, or for
+/// `ES256`, `ES384`, `ES512` the DER of the pair of its two halves of 32, 48, 66 bytes (RFC 7518, section 3.4). The text needn't be a
+/// token, and no header is looked at.
+///
+/// In order: `InvalidEncoding` where the text has no dot or ends with one; `Base64Decoding` where the text after its last dot isn't
+/// strict; `Signature` with `UnsupportedAlgorithm` for a name without a signature algorithm, with `Ec` where an ECDSA signature
+/// hasn't the 64, 96 or 132 bytes of its name, with `BadSignature` where the relation doesn't hold.
 #[tactic(auto, unfolding(crate::specs::Signatures::signed_table))]
-pub(crate) fn check_signature<P: KeyProvider>(
+pub fn verify_signature<P: KeyProvider>(
     alloc: Global,
+    encoded_token: &str,
     provider: &P,
     public_key: &PublicKey,
-    alg: JwsAlg,
-    token: &str,
+    algorithm: JwsAlg,
 ) -> Result<(), JwsError>
-    ensures { Meets (λ u. u) jws_fault result (signed_table (P.signs provider.now) public_key.now alg token.now) }
+    ensures { Meets (λ u. u) jws_fault result (signed_table (P.signs provider.now) public_key.now algorithm encoded_token.now) }
 {
-    let Some((signed, signature)) = halves_of(token) else {
-        let input = String::from_str(alloc, token)?;
+    let Some((signed, signature)) = halves_of(encoded_token) else {
+        let input = String::from_str(alloc, encoded_token)?;
         return Err(JwsError::InvalidEncoding { input });
     };
     let Some(signature) = picky_base64::decode(alloc, Form::Url, signature)? else {
         return Err(JwsError::Base64Decoding);
     };
     let message = signed.as_bytes();
-    check_vouched(alloc, provider, public_key, alg, message, &signature)
+    check_vouched(alloc, provider, public_key, algorithm, message, &signature)
 }
 
 // The same of a text whose signature is decoded already.

@@ -1,5 +1,5 @@
-pub mod Names
 pub mod Jwk
-pub mod Keys
+pub mod Views
+pub mod Trees
 pub mod Refusals
 pub mod laws

@@ -1,40 +1,23 @@
--- Why a JWK set isn't read, and why a JWK isn't a public key, each with its conditions in order (own; RFC 8037, section 2).
-use Rattle.std.specs.Prelude.{◌≡◌, ℕ, List, length, Option, Some, None}
-use Rattle.picky_contract.specs.Refusals.{Table, the, need, done, ◌>>=◌}
-use Rattle.picky_base64.specs.Base64.{B64}
-use Rattle.picky_base64.specs.declared.Form.TheVariants.{Url}
+-- Why a text tells no key or set, and keys with no other member (own; RFC 7517 section 4).
+use Rattle.std.specs.Prelude.{ℕ, List, None}
+use Rattle.serde_json.specs.Data.{Data}
+use Rattle.picky_contract.specs.Refusals.{Table, the, done, ◌>>=◌}
 use Rattle.picky_key_der.specs.declared.public.PublicKeyKind.{PublicKeyKind}
-use Rattle.picky_key_der.specs.declared.public.PublicKeyKind.TheVariants.{Ed}
-use Rattle.picky_key_der.specs.declared.algorithm.EdAlgorithm.{EdAlgorithm}
-use Rattle.picky_key_der.specs.declared.algorithm.EdAlgorithm.TheVariants as key
-use Rattle.picky_jwk.specs.declared.jwk.JwkEdPublicKeyAlgorithm.{JwkEdPublicKeyAlgorithm}
-use Rattle.picky_jwk.specs.declared.jwk.JwkEdPublicKeyAlgorithm.TheVariants.{Ed25519}
-use Rattle.picky_jwk.specs.declared.error.JwkError.{JwkError}
-use Rattle.picky_jwk.specs.declared.error.JwkError.TheVariants as errors
-use Rattle.picky_jwk.specs.Jwk.{Jwk, KeyType, ed}
-use Rattle.picky_jwk.specs.Keys.{FirstKeysOf}
+use Rattle.picky_members.specs.Members.{TextOf}
+use Rattle.picky_jwk_key.specs.Keys.{Key}
+use Rattle.picky_jwk_key.specs.Refusals.{Fault, json, jwk_table}
+use Rattle.picky_jwk.specs.Jwk.{Jwk}
 
--- what an error says, want of memory aside
-pub data Fault : Type 0 where
-  not_base64 : Fault
-  bad_ed_key : Fault
-  unbuilt : Fault
+-- the tree of the text tells a value
+abbrev pub json_table : {A : Type 0} → (Data → A → Type 0) → List ℕ → Table A Fault
+json_table R text = the (TextOf R text) json
 
-abbrev pub fault : JwkError → Option Fault
-fault errors.Base64Decoding = Some not_base64
-fault (errors.InvalidEdPublicKey cause) = Some bad_ed_key
-fault errors.OutOfMemory = None
-fault errors.Unbuilt = Some unbuilt
+-- the key with no other member
+abbrev pub bare : Key → Jwk
+bare key = record { key = key; alg = None; key_use = None; key_ops = None; kid = None; x5u = None; x5c = None; x5t = None; x5t_s256 = None }
 
-abbrev pub keys_table : List ℕ → Table (List Jwk) Fault
-keys_table text = the (FirstKeysOf text) unbuilt
-
-abbrev pub ed_algorithm : JwkEdPublicKeyAlgorithm → EdAlgorithm
-ed_algorithm Ed25519 = key.Ed25519
-
--- the public key of a JWK: `x` is strict, and spells 32 bytes
-unfoldable pub key_table : KeyType → Table PublicKeyKind Fault
-key_table (ed crv x) = do
-  bytes ← the (B64 Url x) not_base64
-  size ← need (length bytes ≡ 32) bad_ed_key
-  done (Ed (ed_algorithm crv) bytes)
+-- what holds a public key, with no other member
+unfoldable pub bare_table : PublicKeyKind → Table Jwk Fault
+bare_table p = do
+  key ← jwk_table p
+  done (bare key)

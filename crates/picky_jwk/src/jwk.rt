@@ -1,148 +1,206 @@
-// Keys and sets.
-ghost use Rattle.std.specs.Prelude.{◌≡◌, IfOk, List, string_bytes};
+// Keys.
+ghost use Rattle.std.specs.Prelude.{◌≡◌, None, IfOk, IfErr, string_bytes};
 ghost use Rattle.picky_contract.specs.Refusals.{Meets, OkOrMemory};
-ghost use Rattle.picky_jwk.specs.Jwk.{jwk_view, key_type_view, set_view, Jwk as JwkView};
-ghost use Rattle.picky_jwk.specs.Keys.{FirstKeysOf};
-ghost use Rattle.picky_jwk.specs.Refusals.{fault, ed_algorithm, key_table, keys_table};
+ghost use Rattle.picky_key_der.specs.declared.public.PublicKeyKind.{PublicKeyKind};
+ghost use Rattle.picky_members.specs.Members.{TextOf};
+ghost use Rattle.picky_jwk_key.specs.Keys.{key_view};
+ghost use Rattle.picky_jwk_key.specs.Public.{KeyOfJwk};
+ghost use Rattle.picky_jwk_key.specs.Refusals.{fault, public_table};
+ghost use Rattle.picky_jwk.specs.Jwk.{Jwk as JwkValue, JwkOf};
+ghost use Rattle.picky_jwk.specs.Views.{jwk_view};
+ghost use Rattle.picky_jwk.specs.Refusals.{bare, json_table, bare_table};
 
-use crate::error::JwkError;
-use crate::set::keys_in;
-use picky_base64::Form;
-use picky_key::{EdAlgorithm, PublicKey};
+use crate::copy::{copy_operations, copy_text, copy_texts};
+use crate::key::{key_of, put_key};
+use picky_jwk_key::{JwkError, JwkKeyType};
+use picky_jwk_names::{Jwa, JwkKeyOps, JwkPubKeyUse};
+use picky_key_der::PublicKey;
+use picky_members::{
+    FormError, JsonForm, either_spelling, from_text, optional, put_optional, to_pretty_text,
+    to_text,
+};
+use serde_json::{Map, Value};
 use std::alloc::{AllocError, Global};
 
-/// The algorithm of an Edwards curve key: the member `crv` (RFC 8037, section 2).
-#[derive(Clone, Copy, Debug, PartialEq, Eq, Hash)]
-pub enum JwkEdPublicKeyAlgorithm {
-    Ed25519,
-}
-
-/// An Edwards curve key: its `crv`, and the text `x`, which is the base64url of its bytes.
-#[derive(Debug, Drop, PartialEq, Eq, Hash)]
-pub struct JwkPublicEdKey {
-    pub crv: JwkEdPublicKeyAlgorithm,
-    pub(crate) x: String,
-}
-
-/// What a key holds, by its member `kty` (RFC 7517, section 4.1).
-#[derive(Debug, Drop, PartialEq, Eq, Hash)]
-pub enum JwkKeyType {
-    /// `OKP`.
-    Ed(JwkPublicEdKey),
-}
-
-/// A JSON Web Key (RFC 7517, section 4): what it holds, and its name `kid`.
+/// A JSON Web Key (RFC 7517 section 4).
 #[derive(Debug, Drop, PartialEq, Eq, Hash)]
 pub struct Jwk {
+    /// What it holds, by its type `kty`.
     pub key: JwkKeyType,
+    /// The algorithm with which it is used.
+    pub alg: Option<Jwa>,
+    /// What it is used for, the member `use`.
+    pub key_use: Option<JwkPubKeyUse>,
+    /// The operations for which it is used.
+    pub key_ops: Option<Vec<JwkKeyOps>>,
+    /// Its name.
     pub kid: Option<String>,
+    /// Where its certificates lie.
+    pub x5u: Option<String>,
+    /// Its certificates.
+    pub x5c: Option<Vec<String>>,
+    /// The SHA-1 thumbprint of its certificate.
+    pub x5t: Option<String>,
+    /// The SHA-256 thumbprint of its certificate, the member `x5t#S256`.
+    pub x5t_s256: Option<String>,
 }
 
-/// A set of keys (RFC 7517, section 5), in the order of its text.
-#[derive(Debug, Drop, PartialEq, Eq, Hash)]
-pub struct JwkSet {
-    pub keys: Vec<Jwk>,
-}
+/// An object whose members tell the key. Of optional members null means absent; other members, and those of another type of key,
+/// are ignored; `x5t#s256` is a second spelling of `x5t#S256`, and an object with both tells none.
+impl JsonForm for Jwk {
+    ghost use Rattle.picky_jwk.specs.Jwk.{Jwk as JwkValue, JwkOf};
+    ghost use Rattle.picky_jwk.specs.Views.{jwk_view};
+    ghost use Rattle.picky_jwk.specs.Trees.{jwk_tree};
+    ghost use Rattle.picky_jwk.specs.laws.Once.{jwk_once, jwk_not_null};
+    ghost use Rattle.picky_jwk.specs.laws.Written.{jwk_written};
+    ghost use Rattle.picky_jwk.specs.laws.Shallow.{jwk_shallow};
 
-// The algorithm of a key of this curve.
-fn ed_algorithm_of(crv: JwkEdPublicKeyAlgorithm) -> EdAlgorithm
-    ensures { result ≡ ed_algorithm crv }
-{
-    match crv {
-        JwkEdPublicKeyAlgorithm::Ed25519 => EdAlgorithm::Ed25519,
-    }
-}
+    ghost Abstract = { JwkValue };
 
-impl JwkPublicEdKey {
-    /// A copy, in memory of its own.
-    pub fn clone(&self, alloc: Global) -> Result<JwkPublicEdKey, AllocError>
-        ensures crv { IfOk result (λ copy. copy.crv ≡ self.now.crv) }
-        ensures x { IfOk result (λ copy. string_bytes copy.x ≡ string_bytes self.now.x) }
-    {
-        Ok(JwkPublicEdKey {
-            crv: self.crv,
-            x: String::from_str(alloc, &self.x)?,
+    ghost stands_for = { jwk_view };
+
+    ghost Tells = { JwkOf };
+
+    ghost tree_of = { jwk_tree };
+
+    ghost levels = { 2 };
+
+    #[tactic(auto, using(picky_members::specs::laws::Stops::stops))]
+    fn from_tree(alloc: Global, tree: &Value) -> Result<Jwk, FormError> {
+        let key = key_of(alloc, tree)?;
+        let alg = optional(alloc, tree, "alg")?;
+        let key_use = optional(alloc, tree, "use")?;
+        let key_ops = optional(alloc, tree, "key_ops")?;
+        let kid = optional(alloc, tree, "kid")?;
+        let x5u = optional(alloc, tree, "x5u")?;
+        let x5c = optional(alloc, tree, "x5c")?;
+        let x5t = optional(alloc, tree, "x5t")?;
+        let x5t_s256 = either_spelling(alloc, tree, "x5t#S256", "x5t#s256")?;
+        Ok(Jwk {
+            key,
+            alg,
+            key_use,
+            key_ops,
+            kid,
+            x5u,
+            x5c,
+            x5t,
+            x5t_s256,
         })
     }
-}
 
-impl JwkKeyType {
-    /// A copy, in memory of its own.
-    pub fn clone(&self, alloc: Global) -> Result<JwkKeyType, AllocError>
-        ensures { IfOk result (λ copy. key_type_view copy ≡ key_type_view self.now) }
-    {
-        match self {
-            JwkKeyType::Ed(key) => Ok(JwkKeyType::Ed(key.clone(alloc)?)),
-        }
+    #[tactic(auto, unfolding(crate::specs::Trees::jwk_tree))]
+    fn to_tree(&self, alloc: Global) -> Result<Value, AllocError> {
+        let mut members = Map::new(alloc);
+        put_key(alloc, &mut members, &self.key)?;
+        put_optional(alloc, &mut members, "alg", &self.alg)?;
+        put_optional(alloc, &mut members, "use", &self.key_use)?;
+        put_optional(alloc, &mut members, "key_ops", &self.key_ops)?;
+        put_optional(alloc, &mut members, "kid", &self.kid)?;
+        put_optional(alloc, &mut members, "x5u", &self.x5u)?;
+        put_optional(alloc, &mut members, "x5c", &self.x5c)?;
+        put_optional(alloc, &mut members, "x5t", &self.x5t)?;
+        put_optional(alloc, &mut members, "x5t#S256", &self.x5t_s256)?;
+        Ok(Value::Object(members))
     }
+
+    ghost once = { jwk_once };
+
+    ghost not_null = { jwk_not_null };
+
+    ghost reads_back = { jwk_written };
+
+    ghost shallow = { jwk_shallow };
 }
 
 impl Jwk {
+    /// The key that holds this, with no other member. Takes no memory.
+    pub fn new(key: JwkKeyType) -> Jwk
+        ensures { jwk_view result ≡ bare (key_view key) }
+    {
+        Jwk {
+            key,
+            alg: None,
+            key_use: None,
+            key_ops: None,
+            kid: None,
+            x5u: None,
+            x5c: None,
+            x5t: None,
+            x5t_s256: None,
+        }
+    }
+
+    /// The key that the text tells. `Json` exactly where it tells none.
+    pub fn from_json(alloc: Global, json: &str) -> Result<Jwk, JwkError>
+        ensures found { IfOk result (λ k. TextOf JwkOf json.now (jwk_view k)) }
+        ensures every { (k : JwkValue) → TextOf JwkOf json.now k → OkOrMemory jwk_view fault result k }
+        ensures first { Meets jwk_view fault result (json_table JwkOf json.now) }
+    {
+        match from_text(alloc, json) {
+            Ok(key) => Ok(key),
+            Err(FormError::NotOfForm) => Err(JwkError::Json),
+            Err(FormError::OutOfMemory) => Err(JwkError::OutOfMemory),
+        }
+    }
+
+    /// A compact text that tells the key. Refused for want of memory alone.
+    pub fn to_json(&self, alloc: Global) -> Result<String, JwkError>
+        ensures reads_back { IfOk result (λ s. TextOf JwkOf (string_bytes s) (jwk_view self.now)) }
+        ensures only_memory { IfErr result (λ e. fault e ≡ None) }
+    {
+        Ok(to_text(alloc, self)?)
+    }
+
+    /// A text in lines that tells the key. Refused for want of memory alone.
+    pub fn to_json_pretty(&self, alloc: Global) -> Result<String, JwkError>
+        ensures reads_back { IfOk result (λ s. TextOf JwkOf (string_bytes s) (jwk_view self.now)) }
+        ensures only_memory { IfErr result (λ e. fault e ≡ None) }
+    {
+        Ok(to_pretty_text(alloc, self)?)
+    }
+
+    /// The public key.
+    ///
+    /// `UnsupportedAlgorithm` exactly for `oct` (`octet sequence`), Ed448 (`ed448 algorithm`) and X448 (`x448 algorithm`), whose
+    /// texts aren't looked at; else `Base64Decoding` exactly where a text of `key` isn't strict unpadded base64url; then
+    /// `InvalidEcPointCoordinates` exactly where the number of a coordinate needs more bytes than the field, and
+    /// `InvalidEdPublicKey` exactly where an Edwards key hasn't 32 bytes. An empty modulus or exponent is zero.
+    pub fn to_public_key(&self, alloc: Global) -> Result<PublicKey, JwkError>
+        ensures found { IfOk result (KeyOfJwk (jwk_view self.now).key) }
+        ensures every { (p : PublicKeyKind) → KeyOfJwk (jwk_view self.now).key p → OkOrMemory (λ p. p) fault result p }
+        ensures first { Meets (λ p. p) fault result (public_table (jwk_view self.now).key) }
+    {
+        self.key.to_public_key(alloc)
+    }
+
+    /// The key that holds the public key, with no other member: RSA numbers by their bytes without one leading 00, the coordinates
+    /// of an uncompressed point in the size of the field, the bytes of an Edwards curve key.
+    ///
+    /// `UnsupportedAlgorithm` (`Unsupported EC curve`) exactly for a key on an unsupported curve, `InvalidEcPublicKey` exactly for
+    /// a compressed point.
+    #[tactic(auto, unfolding(crate::specs::Refusals::bare_table))]
+    pub fn from_public_key(alloc: Global, public_key: &PublicKey) -> Result<Jwk, JwkError>
+        ensures { Meets jwk_view fault result (bare_table public_key.now) }
+    {
+        let key = JwkKeyType::from_public_key(alloc, public_key)?;
+        Ok(Jwk::new(key))
+    }
+
     /// A copy, in memory of its own.
     pub fn clone(&self, alloc: Global) -> Result<Jwk, AllocError>
         ensures { IfOk result (λ copy. jwk_view copy ≡ jwk_view self.now) }
     {
-        let kid = match &self.kid {
-            Some(kid) => Some(String::from_str(alloc, kid)?),
-            None => None,
-        };
         Ok(Jwk {
             key: self.key.clone(alloc)?,
-            kid,
+            alg: self.alg,
+            key_use: self.key_use,
+            key_ops: copy_operations(alloc, &self.key_ops)?,
+            kid: copy_text(alloc, &self.kid)?,
+            x5u: copy_text(alloc, &self.x5u)?,
+            x5c: copy_texts(alloc, &self.x5c)?,
+            x5t: copy_text(alloc, &self.x5t)?,
+            x5t_s256: copy_text(alloc, &self.x5t_s256)?,
         })
-    }
-
-    /// The public key: the 32 bytes that `x` spells.
-    ///
-    /// `Base64Decoding` exactly where `x` isn't strict unpadded base64url, `InvalidEdPublicKey`
-    /// exactly where its bytes aren't 32.
-    #[tactic(auto, unfolding(crate::specs::Refusals::key_table))]
-    pub fn to_public_key(&self, alloc: Global) -> Result<PublicKey, JwkError>
-        ensures { Meets (λ k. k) fault result (key_table (jwk_view self.now).key) }
-    {
-        match &self.key {
-            JwkKeyType::Ed(key) => {
-                let Some(bytes) = picky_base64::decode(alloc, Form::Url, &key.x)? else {
-                    return Err(JwkError::Base64Decoding);
-                };
-                let algorithm = ed_algorithm_of(key.crv);
-                match PublicKey::from_ed_encoded_components(algorithm, bytes) {
-                    Ok(key) => Ok(key),
-                    Err(_) => Err(JwkError::InvalidEdPublicKey {
-                        cause: "the key isn't 32 bytes",
-                    }),
-                }
-            }
-        }
-    }
-}
-
-impl JwkSet {
-    /// A copy, in memory of its own.
-    #[tactic(auto, using(crate::proofs::Copies::one_more, crate::proofs::Copies::all_copied))]
-    pub fn clone(&self, alloc: Global) -> Result<JwkSet, AllocError>
-        ensures { IfOk result (λ copy. set_view copy ≡ set_view self.now) }
-    {
-        let mut copies = Vec::new(alloc);
-        for key in &self.keys {
-            copies.push(key.clone(alloc)?)?;
-        }
-        Ok(JwkSet { keys: copies })
-    }
-
-    /// Reads a set of the first form: a JSON object with the one member `keys`, a list of objects
-    /// with exactly the members `kty` (`OKP`), `crv` (`Ed25519`), `x` (strict unpadded base64url of
-    /// 32 bytes) and `kid` (a text), no two with the same `kid`.
-    ///
-    /// `Unbuilt` exactly where the text isn't of that form.
-    pub fn from_json(alloc: Global, json: &str) -> Result<JwkSet, JwkError>
-        ensures found { IfOk result (λ s. FirstKeysOf json.now (set_view s)) }
-        ensures every { (ks : List JwkView) → FirstKeysOf json.now ks → OkOrMemory set_view fault result ks }
-        ensures first { Meets set_view fault result (keys_table json.now) }
-    {
-        let Some(keys) = keys_in(alloc, json)? else {
-            return Err(JwkError::Unbuilt);
-        };
-        Ok(JwkSet { keys })
     }
 }

@@ -1,16 +1,14 @@
 //! Laws of keys and sets: each is the contract of a function without a body.
-ghost use Rattle.std.specs.Prelude.{◌≡◌, ℕ, List};
-ghost use Rattle.picky_key_der.specs.declared.public.PublicKeyKind.{PublicKeyKind};
-ghost use Rattle.picky_jwk.specs.Jwk.{Jwk, KeyType};
-ghost use Rattle.picky_jwk.specs.Keys.{FirstKeysOf};
-ghost use Rattle.picky_jwk.specs.Refusals.{key_table};
+ghost use Rattle.std.specs.Prelude.{◌≡◌, List};
+ghost use Rattle.serde_json.specs.Data.{Data};
+ghost use Rattle.picky_jwk.specs.Jwk.{Jwk, JwkOf, JwkSetOf};
 
-/// A JWK has one public key at most.
+/// A tree tells one key at most.
 pub fn key_is_determined()
-    ensures { (k : KeyType) (a b : PublicKeyKind) → (key_table k).holds a → (key_table k).holds b → b ≡ a }
+    ensures { (t : Data) (a b : Jwk) → JwkOf t a → JwkOf t b → b ≡ a }
 {}
 
-/// A text is one set of keys of the first form at most.
+/// A tree tells one set at most.
 pub fn set_is_determined()
-    ensures { (text : List ℕ) (a b : List Jwk) → FirstKeysOf text a → FirstKeysOf text b → b ≡ a }
+    ensures { (t : Data) (a b : List Jwk) → JwkSetOf t a → JwkSetOf t b → b ≡ a }
 {}

@@ -1,14 +1,16 @@
-//! JSON Web Keys (RFC 7517) and the names of JWS algorithms (RFC 7518).
-//!
-//! A set is read in the first form: Ed25519 keys (RFC 8037), each with a name of its own.
+//! JSON Web Keys and their sets (RFC 7517), both ways: between texts and values, and between values and public keys.
 #![tactic(auto)]
 
-mod alg;
-mod error;
+mod copy;
 mod jwk;
+mod key;
 pub mod laws;
 mod set;
 
-pub use alg::JwsAlg;
-pub use error::JwkError;
-pub use jwk::{Jwk, JwkEdPublicKeyAlgorithm, JwkKeyType, JwkPublicEdKey, JwkSet};
+pub use jwk::Jwk;
+pub use picky_jwk_key::{JwkError, JwkKeyType, JwkPublicEcKey, JwkPublicEdKey, JwkPublicRsaKey};
+pub use picky_jwk_names::{
+    Jwa, JweAlg, JweEnc, JwkEcPublicKeyCurve, JwkEdPublicKeyAlgorithm, JwkKeyOps, JwkPubKeyUse,
+    JwsAlg,
+};
+pub use set::JwkSet;

@@ -1,124 +1,107 @@
-// Reading a set of the first form.
-ghost use Rattle.std.specs.Prelude.{◌↔◌, IfOk, IsTrue, map, option_map, string_bytes, ◌≢◌};
-ghost use Rattle.std.specs.List.{AllZip, AllPairs};
-ghost use Rattle.serde_json.specs.View.{view, items_view};
-ghost use Rattle.picky_contract.specs.Refusals.{Finds};
-ghost use Rattle.picky_jwk.specs.Jwk.{jwk_view, jwks_view};
-ghost use Rattle.picky_jwk.specs.Keys.{TextsOf, texts_view, IsEd25519Text, FirstKeyOf, ItemsOf, FirstKeysOf};
+// Sets of keys.
+ghost use Rattle.std.specs.Prelude.{◌≡◌, None, List, IfOk, IfErr, string_bytes};
+ghost use Rattle.picky_contract.specs.Refusals.{Meets, OkOrMemory};
+ghost use Rattle.picky_members.specs.Members.{TextOf};
+ghost use Rattle.picky_jwk_key.specs.Refusals.{fault};
+ghost use Rattle.picky_jwk.specs.Jwk.{Jwk as JwkValue, JwkSetOf};
+ghost use Rattle.picky_jwk.specs.Views.{set_view};
+ghost use Rattle.picky_jwk.specs.Refusals.{json_table};
 
-use crate::jwk::{Jwk, JwkEdPublicKeyAlgorithm, JwkKeyType, JwkPublicEdKey};
-use picky_base64::Form;
-use picky_json::{has_float, next_member, parse};
-use serde_json::Value;
+use crate::jwk::Jwk;
+use picky_jwk_key::JwkError;
+use picky_members::{FormError, JsonForm, from_text, put, required, to_pretty_text, to_text};
+use serde_json::{Map, Value};
 use std::alloc::{AllocError, Global};
 
-/// The size of an Ed25519 public key in bytes.
-const ED25519_SIZE: usize = 32;
-
-// The keys of a text.
-pub(crate) fn keys_in(alloc: Global, json: &str) -> Result<Option<Vec<Jwk>>, AllocError>
-    ensures { IfOk result (Finds (λ v. jwks_view v.items) (FirstKeysOf json.now)) }
-{
-    let Some(tree) = parse(alloc, json.as_bytes())? else {
-        return Ok(None);
-    };
-    if has_float(&tree) {
-        return Ok(None);
-    }
-    let Some(items) = items_of(&tree) else {
-        return Ok(None);
-    };
-    let Some(keys) = keys_of(alloc, items)? else {
-        return Ok(None);
-    };
-    if !are_apart(&keys) {
-        return Ok(None);
-    }
-    Ok(Some(keys))
+/// A set of keys (RFC 7517 section 5), in the order of its text.
+#[derive(Debug, Drop, PartialEq, Eq, Hash)]
+pub struct JwkSet {
+    /// The keys.
+    pub keys: Vec<Jwk>,
 }
 
-// The items of a tree.
-fn items_of(tree: &Value) -> Option<&Vec<Value>>
-    ensures { Finds (λ v. items_view v.now.items) (ItemsOf (view tree.now)) result }
-{
-    let mut members = tree.as_object()?.iter();
-    let keys = next_member(&mut members, "keys")?;
-    if members.next().is_some() {
-        return None;
+/// An object with a list `keys`, each of whose items tells a key; other members are ignored.
+impl JsonForm for JwkSet {
+    ghost use Rattle.std.specs.Prelude.{List};
+    ghost use Rattle.picky_jwk.specs.Jwk.{Jwk as JwkValue, JwkSetOf};
+    ghost use Rattle.picky_jwk.specs.Views.{set_view};
+    ghost use Rattle.picky_jwk.specs.Trees.{set_tree};
+    ghost use Rattle.picky_jwk.specs.laws.Once.{set_once, set_not_null};
+    ghost use Rattle.picky_jwk.specs.laws.Written.{set_written};
+    ghost use Rattle.picky_jwk.specs.laws.Shallow.{set_shallow};
+
+    ghost Abstract = { List JwkValue };
+
+    ghost stands_for = { set_view };
+
+    ghost Tells = { JwkSetOf };
+
+    ghost tree_of = { set_tree };
+
+    ghost levels = { 4 };
+
+    #[tactic(auto, using(picky_members::specs::laws::Stops::stops))]
+    fn from_tree(alloc: Global, tree: &Value) -> Result<JwkSet, FormError> {
+        let keys = required(alloc, tree, "keys")?;
+        Ok(JwkSet { keys })
     }
-    keys.as_array()
-}
 
-// The keys of all items.
-#[tactic(auto, using(picky_contract::specs::laws::Growing::grows_turn, picky_contract::specs::laws::Growing::grows_end))]
-fn keys_of(alloc: Global, items: &Vec<Value>) -> Result<Option<Vec<Jwk>>, AllocError>
-    ensures { IfOk result (Finds (λ v. jwks_view v.items) (AllZip FirstKeyOf (map view items.now.items))) }
-{
-    let mut keys = Vec::new(alloc);
-    for item in items {
-        let Some(key) = key_of(alloc, item)? else {
-            return Ok(None);
-        };
-        keys.push(key)?;
+    #[tactic(auto, unfolding(crate::specs::Trees::set_tree))]
+    fn to_tree(&self, alloc: Global) -> Result<Value, AllocError> {
+        let mut members = Map::new(alloc);
+        put(alloc, &mut members, "keys", &self.keys)?;
+        Ok(Value::Object(members))
     }
-    Ok(Some(keys))
+
+    ghost once = { set_once };
+
+    ghost not_null = { set_not_null };
+
+    ghost reads_back = { set_written };
+
+    ghost shallow = { set_shallow };
 }
 
-// The key of an item.
-fn key_of(alloc: Global, tree: &Value) -> Result<Option<Jwk>, AllocError>
-    ensures { IfOk result (Finds jwk_view (FirstKeyOf (view tree.now))) }
-{
-    let Some((kid, x)) = texts_of(tree) else {
-        return Ok(None);
-    };
-    if !is_ed25519_text(alloc, x)? {
-        return Ok(None);
-    }
-    let key = JwkPublicEdKey {
-        crv: JwkEdPublicKeyAlgorithm::Ed25519,
-        x: String::from_str(alloc, x)?,
-    };
-    Ok(Some(Jwk {
-        key: JwkKeyType::Ed(key),
-        kid: Some(String::from_str(alloc, kid)?),
-    }))
-}
-
-// The texts of `kid` and `x` of an item.
-fn texts_of(tree: &Value) -> Option<(&str, &str)>
-    ensures { Finds texts_view (TextsOf (view tree.now)) result }
-{
-    let mut members = tree.as_object()?.iter();
-    let crv = next_member(&mut members, "crv")?;
-    let kid = next_member(&mut members, "kid")?;
-    let kty = next_member(&mut members, "kty")?;
-    let x = next_member(&mut members, "x")?;
-    if members.next().is_some() || crv.as_str()? != "Ed25519" || kty.as_str()? != "OKP" {
-        return None;
-    }
-    Some((kid.as_str()?, x.as_str()?))
-}
-
-// Whether a text spells 32 bytes.
-fn is_ed25519_text(alloc: Global, x: &str) -> Result<bool, AllocError>
-    ensures { IfOk result (λ holds. IsTrue holds ↔ IsEd25519Text x.now) }
-{
-    let Some(bytes) = picky_base64::decode(alloc, Form::Url, x)? else {
-        return Ok(false);
-    };
-    Ok(bytes.len() == ED25519_SIZE)
-}
-
-// Whether no two keys have one name.
-fn are_apart(keys: &[Jwk]) -> bool
-    ensures { IsTrue result ↔ AllPairs (λ a b. option_map string_bytes a.kid ≢ option_map string_bytes b.kid) keys.now }
-{
-    for j in 0..keys.len() {
-        for i in 0..j {
-            if keys[i].kid == keys[j].kid {
-                return false;
-            }
+impl JwkSet {
+    /// The set that the text tells. `Json` exactly where it tells none: one key with an unknown `kty`, `crv`, `alg`, `use` or
+    /// `key_ops` refuses all.
+    pub fn from_json(alloc: Global, json: &str) -> Result<JwkSet, JwkError>
+        ensures found { IfOk result (λ s. TextOf JwkSetOf json.now (set_view s)) }
+        ensures every { (ks : List JwkValue) → TextOf JwkSetOf json.now ks → OkOrMemory set_view fault result ks }
+        ensures first { Meets set_view fault result (json_table JwkSetOf json.now) }
+    {
+        match from_text(alloc, json) {
+            Ok(set) => Ok(set),
+            Err(FormError::NotOfForm) => Err(JwkError::Json),
+            Err(FormError::OutOfMemory) => Err(JwkError::OutOfMemory),
         }
     }
-    true
+
+    /// A compact text that tells the set. Refused for want of memory alone.
+    pub fn to_json(&self, alloc: Global) -> Result<String, JwkError>
+        ensures reads_back { IfOk result (λ s. TextOf JwkSetOf (string_bytes s) (set_view self.now)) }
+        ensures only_memory { IfErr result (λ e. fault e ≡ None) }
+    {
+        Ok(to_text(alloc, self)?)
+    }
+
+    /// A text in lines that tells the set. Refused for want of memory alone.
+    pub fn to_json_pretty(&self, alloc: Global) -> Result<String, JwkError>
+        ensures reads_back { IfOk result (λ s. TextOf JwkSetOf (string_bytes s) (set_view self.now)) }
+        ensures only_memory { IfErr result (λ e. fault e ≡ None) }
+    {
+        Ok(to_pretty_text(alloc, self)?)
+    }
+
+    /// A copy, in memory of its own.
+    #[tactic(auto, using(picky_members::specs::laws::Lists::map_more, picky_members::specs::laws::Lists::map_all))]
+    pub fn clone(&self, alloc: Global) -> Result<JwkSet, AllocError>
+        ensures { IfOk result (λ copy. set_view copy ≡ set_view self.now) }
+    {
+        let mut copies = Vec::new(alloc);
+        for key in &self.keys {
+            copies.push(key.clone(alloc)?)?;
+        }
+        Ok(JwkSet { keys: copies })
+    }
 }

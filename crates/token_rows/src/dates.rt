@@ -8,13 +8,15 @@
 //     date.is_after_strict SECONDS LEEWAY OTHER
 //     jwt.validate SECONDS LEEWAY CLAIMS         `Ok`, or the refusal, by a lenient validator
 //     jwt.validate_by CHECKS CLAIMS              the same by another: `none`, `undated` (both claims required, no date), or
-//                                                `strict`, `nbf` (that alone required), `exp` (that alone looked at), at 100
+//                                                `strict`, `lenient`, `nbf` (that alone required), `exp` (that alone looked at), at 100
 //     jwt.check_by CHECKS CLAIMS                 the same of claims that were read already
+//     jwt.decode KEY TEXT RECORDS                `Ok`, where the signature holds by a provider of these records, or the refusal
+use crate::signatures;
 use anyhow::{Context, Result, bail};
-use picky_jose::{Jws, JwsHeader, JwtDate, JwtSig, JwtValidator};
+use picky_jose::{Jws, JwsAlg, JwsHeader, JwtDate, JwtSig, JwtValidator, no_check_validator};
 use picky_json::parse;
-use picky_jwk::JwsAlg;
 use rows::{Answer, Words};
+use serde_json::Value;
 use std::alloc::Global;
 
 /// The seconds of the next word.
@@ -58,6 +60,7 @@ pub(crate) fn answer(alloc: Global, call: &str, words: &mut Words<'_>) -> Result
         "validate" => validate(alloc, words),
         "validate_by" => validate_by(alloc, words),
         "check_by" => check_by(alloc, words),
+        "decode" => signatures::signed_claims(alloc, words),
         _ => bail!("no such call"),
     }
 }
@@ -70,13 +73,14 @@ fn validate(alloc: Global, words: &mut Words<'_>) -> Result<Answer> {
 fn validator(name: &str) -> Result<JwtValidator> {
     let date = JwtDate::new(100);
     match name {
-        "none" => Ok(JwtValidator::no_check()),
+        "none" => Ok(no_check_validator()),
         "undated" => Ok(
             JwtValidator::no_check()
                 .not_before_check_required()
                 .expiration_check_required(),
         ),
         "strict" => Ok(JwtValidator::strict(date)),
+        "lenient" => Ok(JwtValidator::lenient(date)),
         "nbf" => Ok(JwtValidator::lenient(date).not_before_check_required()),
         "exp" => Ok(
             JwtValidator::no_check()
@@ -103,13 +107,10 @@ fn check_by(alloc: Global, words: &mut Words<'_>) -> Result<Answer> {
 }
 
 fn validated(alloc: Global, validator: JwtValidator, words: &mut Words<'_>) -> Result<Answer> {
-    let header = JwsHeader {
-        alg: JwsAlg::EdDSA,
-        kid: None,
-    };
+    let header = JwsHeader::new(alloc, JwsAlg::EdDSA);
     let payload = words.rest().as_bytes().to_vec(alloc)?;
     let token = JwtSig::from(Jws { header, payload });
-    match token.validate(alloc, &validator) {
+    match token.validate::<Value>(alloc, &validator) {
         Ok(_) => Ok(Answer::Word("Ok")),
         Err(error) => Answer::debug(alloc, &error),
     }

@@ -1,15 +1,15 @@
-//! Answers rows that name the calls of base64, JSON, keys and signed tokens.
+//! Answers rows that name the calls of base64, JSON, keys, signed tokens and HTTP signatures.
 #![tactic(auto)]
 
 mod base64;
 mod dates;
-mod http;
+mod header_texts;
 mod json;
 mod keys;
 mod messages;
 mod pairs;
 mod records;
-mod sets;
+mod requests;
 mod signatures;
 mod tokens;
 
@@ -27,11 +27,11 @@ impl Calls for TokenCalls {
             "json" => json::answer(alloc, call, words),
             "key" => keys::answer(alloc, call, words),
             "records" => records::answer(alloc, call, words),
-            "jwk" => sets::answer(alloc, call, words),
             "jws" => tokens::answer(alloc, call, words),
             "jwt" => dates::answer(alloc, call, words),
             "date" => dates::answer_of_date(alloc, call, words),
-            "http" => http::answer(alloc, call, words),
+            "http" => header_texts::answer(alloc, call, words),
+            "request" => requests::answer(alloc, call, words),
             "message" => messages::answer(alloc, call, words),
             _ => bail!("no such call"),
         }

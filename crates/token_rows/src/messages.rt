@@ -3,7 +3,7 @@
 //     message.key BadSize EXPECTED GOT
 //     message.signature UnsupportedAlgorithm | BadSignature | Ec EXPECTED GOT
 //     message.records OutOfMemory | BadLine LINE | Family LINE | Conflict LINE
-//     message.jwk Base64Decoding | InvalidEdPublicKey | OutOfMemory | Unbuilt
+//     message.jwk Json | Base64Decoding | InvalidEdPublicKey | OutOfMemory
 //     message.jws Json | Signature SIGNATURE.. | InvalidEncoding INPUT | Base64Decoding | Float | OutOfMemory
 //     message.jwt Jws JWS.. | Json | InvalidRegisteredClaimType CLAIM | RequiredClaimMissing CLAIM
 //         | NotYetValid NBF SECONDS LEEWAY | Expired EXP SECONDS LEEWAY | InvalidValidator | Float | OutOfMemory
@@ -70,12 +70,12 @@ fn records(words: &mut Words<'_>) -> Result<RecordFault> {
 
 fn jwk(words: &mut Words<'_>) -> Result<JwkError> {
     match words.next() {
+        "Json" => Ok(JwkError::Json),
         "Base64Decoding" => Ok(JwkError::Base64Decoding),
         "InvalidEdPublicKey" => Ok(JwkError::InvalidEdPublicKey {
             cause: "the key isn't 32 bytes",
         }),
         "OutOfMemory" => Ok(JwkError::OutOfMemory),
-        "Unbuilt" => Ok(JwkError::Unbuilt),
         _ => bail!("no such error"),
     }
 }

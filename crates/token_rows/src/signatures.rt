@@ -2,8 +2,7 @@
 use crate::keys::key;
 use crate::records::records;
 use anyhow::{Result, bail};
-use picky_jose::{JwsHeader, RawJws};
-use picky_jwk::JwsAlg;
+use picky_jose::{Jws, JwsAlg, JwsHeader, JwtSig, RawJws, verify_signature};
 use rows::{Answer, Words};
 use std::alloc::Global;
 use std::borrow::CowStr;
@@ -27,7 +26,7 @@ pub(crate) fn algorithm(name: &str) -> Result<JwsAlg> {
 pub(crate) fn token<'a>(alloc: Global, alg: JwsAlg, text: &'a str) -> Result<RawJws<'a>> {
     let mut token = RawJws::decode(alloc, CowStr::Borrowed(TOKEN))?;
     token.compact_repr = CowStr::Borrowed(text);
-    token.header = JwsHeader { alg, kid: None };
+    token.header = JwsHeader::new(alloc, alg);
     Ok(token)
 }
 
@@ -37,6 +36,40 @@ pub(crate) fn verify(alloc: Global, words: &mut Words<'_>) -> Result<Answer> {
     let token = token(alloc, alg, words.next())?;
     let records = records(alloc, words)?;
     match token.verify(alloc, &records, &key) {
+        Ok(_) => Ok(Answer::Word("Ok")),
+        Err(error) => Answer::debug(alloc, &error),
+    }
+}
+
+// The same of the text alone.
+pub(crate) fn verify_text(alloc: Global, words: &mut Words<'_>) -> Result<Answer> {
+    let alg = algorithm(words.next())?;
+    let key = key(alloc, words)?;
+    let text = words.next();
+    let records = records(alloc, words)?;
+    match verify_signature(alloc, text, &records, &key, alg) {
+        Ok(()) => Ok(Answer::Word("Ok")),
+        Err(error) => Answer::debug(alloc, &error),
+    }
+}
+
+// The payload of a token whose signature holds.
+pub(crate) fn verified(alloc: Global, words: &mut Words<'_>) -> Result<Answer> {
+    let key = key(alloc, words)?;
+    let text = words.next();
+    let records = records(alloc, words)?;
+    match Jws::decode(alloc, text, &records, &key) {
+        Ok(token) => Answer::bytes(alloc, &token.payload),
+        Err(error) => Answer::debug(alloc, &error),
+    }
+}
+
+// Whether a token with claims is one whose signature holds.
+pub(crate) fn signed_claims(alloc: Global, words: &mut Words<'_>) -> Result<Answer> {
+    let key = key(alloc, words)?;
+    let text = words.next();
+    let records = records(alloc, words)?;
+    match JwtSig::decode(alloc, text, &records, &key) {
         Ok(_) => Ok(Answer::Word("Ok")),
         Err(error) => Answer::debug(alloc, &error),
     }

@@ -2,9 +2,13 @@
 //
 //     jws.decode TEXT                        `Ok`
 //     jws.payload TEXT                       the payload
+//     jws.alg TEXT                           the name of its algorithm
 //     jws.kid TEXT                           the key's name, or `none`
 //     jws.copy TEXT                          the text of a copy
+//     jws.unsigned TEXT                      the payload, where the signature is discarded
+//     jws.verified KEY TEXT RECORDS          the payload, where the signature holds by a provider of these records
 //     jws.verify ALG KEY TEXT RECORDS        `Ok`; any text under any name, by a provider of these records
+//     jws.verify_text ALG KEY TEXT RECORDS   the same by `verify_signature`, of the text alone
 //     jws.verify_p256 ALG TEXT BYTES         `Ok`; under a P-256 key, by a provider of this one ECDSA signature with SHA-256
 use crate::{pairs, signatures};
 use anyhow::{Result, bail};
@@ -15,9 +19,12 @@ use std::borrow::CowStr;
 
 pub(crate) fn answer(alloc: Global, call: &str, words: &mut Words<'_>) -> Result<Answer> {
     match call {
+        "verified" => signatures::verified(alloc, words),
         "verify" => signatures::verify(alloc, words),
+        "verify_text" => signatures::verify_text(alloc, words),
         "verify_p256" => pairs::verify(alloc, words),
-        "decode" | "payload" | "kid" | "copy" => read(alloc, call, words.rest()),
+        "decode" | "payload" | "alg" | "kid" | "copy" => read(alloc, call, words.rest()),
+        "unsigned" => unsigned(alloc, words.rest()),
         _ => bail!("no such call"),
     }
 }
@@ -29,10 +36,16 @@ fn read(alloc: Global, call: &str, text: &str) -> Result<Answer> {
     }
 }
 
+fn unsigned(alloc: Global, text: &str) -> Result<Answer> {
+    let token = RawJws::decode(alloc, CowStr::Borrowed(text))?;
+    Answer::bytes(alloc, &token.discard_signature().payload)
+}
+
 fn seen(alloc: Global, call: &str, token: &RawJws<'_>) -> Result<Answer> {
     match call {
         "decode" => Ok(Answer::Word("Ok")),
         "payload" => Answer::bytes(alloc, token.peek_payload()),
+        "alg" => Answer::text(alloc, token.header.alg.name()),
         "kid" => kid(alloc, token),
         "copy" => copy(alloc, token),
         _ => bail!("no such call"),

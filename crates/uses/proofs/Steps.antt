@@ -1,5 +1,5 @@
 -- What the steps of a caller come to.
-use Rattle.std.proofs.Common.{◌≡◌, ℕ, ℤ, List, codes, Option, Some, None, IfSome, option_and_then, refl, sym, ap, subst, inr}
+use Rattle.std.proofs.Common.{◌≡◌, ℕ, ℤ, List, codes, Option, Some, None, IfSome, option_and_then, sym, subst, inr}
 use Rattle.std.specs.Prelude.{option_map}
 use Rattle.serde_json.specs.Data.{Data}
 use Rattle.picky_contract.specs.Refusals.{named, ◌>>=◌}
@@ -7,10 +7,8 @@ use Rattle.picky_contract.specs.laws.Tables.{step_refuses, up}
 use Rattle.picky_json.specs.Tree.{Tree, FloatFree, integer, member}
 use Rattle.picky_key_der.specs.declared.public.PublicKeyKind.{PublicKeyKind}
 use Rattle.picky_key.specs.Signatures.{Relation}
-use Rattle.picky_jwk.specs.declared.alg.JwsAlg.{JwsAlg}
 use Rattle.picky_jose.specs.declared.date.JwtDate.{JwtDate}
 use Rattle.picky_jose.specs.declared.error.JwsError.{JwsError}
-use Rattle.picky_jose.specs.declared.error.JwsError.TheVariants as of_jws
 use Rattle.picky_jose.specs.declared.error.JwtError.{JwtError}
 use Rattle.picky_jose.specs.Claims.{start_table, end_table, dated_table, claims_table}
 use Rattle.picky_jose.specs.Dates.{IsAtOrAfterStart, IsBeforeEnd}
@@ -18,17 +16,9 @@ use Rattle.picky_jose.specs.Faults.{jws_fault, jwt_fault, jwt_error_of}
 use Rattle.picky_jose.specs.Refusals.{Reading, TokenReading, token_table}
 use Rattle.picky_jose.specs.Signatures.{signed_table}
 use Rattle.picky_jose.specs.Validator.{lenient}
+use Rattle.picky_jose.specs.laws.Faults.{outer}
 use Rattle.picky_jose.specs.laws.Vouching.{signed_holds}
 use Rattle.uses.specs.Accepted.{Accepted, HasDate, of_token, accepted_table}
-
--- an inner fault under its outer name
-outer : (e : JwsError) → jwt_fault (jwt_error_of e) ≡ option_map of_token (jws_fault e)
-outer of_jws.Json = refl
-outer (of_jws.Signature source) = refl
-outer (of_jws.InvalidEncoding input) = refl
-outer of_jws.Base64Decoding = refl
-outer of_jws.Float = refl
-outer of_jws.OutOfMemory = refl
 
 module _ (signs : Relation) (key : PublicKeyKind) (date : JwtDate) (text : List ℕ) where
   pub not_read : (e : JwsError) → IfSome (jws_fault e) (token_table text).refuses → IfSome (jwt_fault (jwt_error_of e)) (accepted_table signs key date text).refuses
@@ -79,12 +69,11 @@ module _ (signs : Relation) (key : PublicKeyKind) (date : JwtDate) (text : List 
   pub accepted : (x : Reading) (claims : Data) → TokenReading x text → (signed_table signs key x.header.alg text).gives tt → (claims_table (lenient date) x.payload).gives claims
       → Accepted signs key date text claims
   accepted x claims reads signed gives =
-      let name = ap (λ h. h.alg) reads.header.is in
       let d = dated x.payload claims gives in
       record {
         reading = x;
         reads = reads;
-        signed = signed_holds x text signs key reads (subst (λ (a : JwsAlg). (signed_table signs key a text).gives tt) name signed);
+        vouched = signed_holds x text signs key x.header.alg reads signed;
         tree = d.tree;
         free = d.free;
         started = d.started;

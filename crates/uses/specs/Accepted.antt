@@ -4,14 +4,13 @@ use Rattle.serde_json.specs.Data.{Data}
 use Rattle.picky_contract.specs.Refusals.{Table, named, ◌>>=◌}
 use Rattle.picky_json.specs.Tree.{Tree, FloatFree, member, integer}
 use Rattle.picky_key_der.specs.declared.public.PublicKeyKind.{PublicKeyKind}
-use Rattle.picky_key.specs.declared.algorithm.SignatureAlgorithm.TheVariants.{Ed25519}
 use Rattle.picky_key.specs.Signatures.{Relation}
 use Rattle.picky_jose.specs.declared.date.JwtDate.{JwtDate}
 use Rattle.picky_jose.specs.Claims.{claims_table}
 use Rattle.picky_jose.specs.Dates.{IsAtOrAfterStart, IsBeforeEnd}
 use Rattle.picky_jose.specs.Faults.{JwsFault, JwtFault, jws}
 use Rattle.picky_jose.specs.Refusals.{Reading, TokenReading, token_table, signed_bytes}
-use Rattle.picky_jose.specs.Signatures.{signed_table}
+use Rattle.picky_jose.specs.Signatures.{IsVouched, signed_table}
 use Rattle.picky_jose.specs.Validator.{lenient}
 
 -- a moment in seconds, with a leeway of 30
@@ -22,13 +21,13 @@ date_at now = record { numeric_date = now; leeway = 30 }
 abbrev pub HasDate : List ℕ → Data → ℤ → Type 0
 HasDate name claims z = option_and_then integer (member name claims) ≡ Some z
 
--- The claims are those of a token: the text has a reading, the relation holds of the key, of the bytes
--- before the text's last dot as they stand, and of its signature, the payload is those claims, without
--- floats, and the date is within those that they hold.
+-- The claims are those of a token: the text has a reading, the relation holds of the key, of the algorithm of
+-- the header's name, of the bytes before the text's last dot as they stand, and of its signature, the payload is
+-- those claims, without floats, and the date is within those that they hold.
 pub record Accepted (signs : Relation) (key : PublicKeyKind) (date : JwtDate) (text : List ℕ) (claims : Data) : Type 0 where
   pub reading : Reading
   pub reads : TokenReading reading text
-  pub signed : signs key Ed25519 (signed_bytes reads) reading.signature
+  pub vouched : IsVouched signs key reading.header.alg (signed_bytes reads) reading.signature
   pub tree : Tree reading.payload claims
   pub free : FloatFree claims
   pub started : (nbf : ℤ) → HasDate (codes "nbf") claims nbf → IsAtOrAfterStart date nbf

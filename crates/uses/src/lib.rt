@@ -8,6 +8,9 @@ ghost use Rattle.picky_records.specs.Meanings.{signs_by};
 ghost use Rattle.picky_jose.specs.Faults.{jwt_fault};
 ghost use Rattle.uses.specs.Accepted.{Accepted, accepted_table, date_at};
 
+mod agreement;
+
+pub use agreement::{ephemeral_is_agreed, recorded_is_agreed};
 use picky_jose::{JwtDate, JwtError, JwtSig, JwtValidator, RawJws};
 use picky_key::{KeyProvider, PublicKey};
 use picky_records::Recorded;
@@ -32,7 +35,7 @@ pub fn accepted_claims<P: KeyProvider>(
     let token = RawJws::decode(alloc, CowStr::Borrowed(text))?;
     let token = token.verify(alloc, provider, key)?;
     let date = JwtDate::new_with_leeway(now, 30);
-    let token = JwtSig::from(token).validate(alloc, &JwtValidator::lenient(date))?;
+    let token = JwtSig::from(token).validate::<Value>(alloc, &JwtValidator::lenient(date))?;
     Ok(token.state.claims)
 }
 

@@ -1,8 +1,7 @@
 -- The rows of dates say one thing.
 use Rattle.std.proofs.Common.{Option, Some, None, refl}
-use Rattle.std.specs.Prelude.{⊤, codes, IsTrue}
+use Rattle.std.specs.Prelude.{codes, IsTrue}
 use Rattle.serde_json.specs.Data.{Data}
-use Rattle.picky_contract.specs.Refusals.{Table, need, done}
 use Rattle.picky_contract.specs.laws.Tables.{Exact, Single, the_exact, need_exact, done_exact, then_exact}
 use Rattle.picky_json.specs.Tree.{member}
 use Rattle.picky_jose.specs.declared.date.JwtDate.{JwtDate}
@@ -10,7 +9,7 @@ use Rattle.picky_jose.specs.declared.date.ClaimCheck.{ClaimCheck}
 use Rattle.picky_jose.specs.declared.date.ClaimCheck.TheVariants.{Ignored, Optional, Required}
 use Rattle.picky_jose.specs.Claims.{IsInteger, IsThere, start_table, end_table, nbf_table, exp_table, dated_table, no_date, rows_at, dates_table}
 use Rattle.picky_jose.specs.Dates.{IsAtOrAfterStart, IsBeforeEnd}
-use Rattle.picky_jose.specs.Faults.{JwtFault, no_integer, missing, not_yet_valid, expired}
+use Rattle.picky_jose.specs.Faults.{no_integer, missing, not_yet_valid, expired}
 use Rattle.picky_jose.specs.Validator.{Validator, can_judge}
 
 module _ (d : JwtDate) where

@@ -1,18 +1,18 @@
 -- A token has one reading at most, and its table says the same as its reading.
-use Rattle.std.proofs.Common.{◌≡◌, List, ℕ, ◌∷◌, ◌++◌, Some, refl, sym, ◌∙◌, ap, subst}
+use Rattle.std.proofs.Common.{◌≡◌, List, ℕ, ◌∷◌, ◌++◌, refl, sym, ◌∙◌, ap, subst, append_assoc}
 use Rattle.serde_json.specs.Data.{Data}
 use Rattle.picky_contract.specs.laws.Cuts.{first-once, last-once}
 use Rattle.picky_contract.specs.laws.Tables.{Exact, the_exact, need_exact, done_exact, then_exact}
-use Rattle.picky_base64.specs.Base64.{B64}
+use Rattle.picky_base64.specs.Base64.{B64, encoding}
 use Rattle.picky_base64.specs.declared.Form.TheVariants.{Url}
 use Rattle.picky_base64.specs.laws.Encoding.{once}
 use Rattle.picky_json.specs.Tree.{Tree, FloatFree}
 use Rattle.picky_json.specs.laws.Trees.{tree_is_determined}
-use Rattle.picky_jwk.specs.declared.alg.JwsAlg.TheVariants.{EdDSA}
+use Rattle.picky_jws_header.specs.Header.{JwsHeaderOf}
+use Rattle.picky_jws_header.specs.laws.Once.{header_once}
 use Rattle.picky_jose.specs.Token.{Parts, PartsOf, dot}
-use Rattle.picky_jose.specs.Header.{Header, FirstHeaderOf}
 use Rattle.picky_jose.specs.Faults.{json, invalid_encoding, not_base64, float}
-use Rattle.picky_jose.specs.Refusals.{Reading, TokenReading, header_table, token_table}
+use Rattle.picky_jose.specs.Refusals.{Reading, TokenReading, header_table, token_table, signed_bytes}
 
 pub header_exact : (text : List ℕ) → Exact (header_table text)
 unfolding header_table
@@ -20,7 +20,7 @@ header_exact text =
     then_exact _ _ (the_exact (B64 Url text) not_base64) (λ bytes.
     then_exact _ _ (the_exact (Tree bytes) json) (λ tree.
     then_exact _ _ (need_exact (FloatFree tree) float) (λ free.
-    the_exact (FirstHeaderOf tree) json)))
+    the_exact (JwsHeaderOf tree) json)))
 
 pub token_exact : (token : List ℕ) → Exact (token_table token)
 unfolding token_table
@@ -65,20 +65,24 @@ one_cut text x y h k =
     let back = last-once dot y.payload y.signature x.payload x.signature front.1 k.last h.last in
     λ i. record { header = front.0 i; payload = back.0 i; signature = back.1 i }
 
--- a tree is one header of the first form at most
-pub one_header : (t : Data) (h k : Header) → FirstHeaderOf t h → FirstHeaderOf t k → k ≡ h
-one_header t h k first second =
-    let kid : second.kid ≡ first.kid = cc (first.form, second.form) in
-    let with_kid : List ℕ → Header = λ n. record { alg = EdDSA; kid = Some n } in
-    second.is ∙ ap with_kid kid ∙ sym first.is
-
 -- a token has one reading at most
 pub one_reading : (x y : Reading) (text : List ℕ) → TokenReading x text → TokenReading y text → y ≡ x
 one_reading x y text h k =
     let parts : k.parts ≡ h.parts = one_cut text h.parts k.parts h.joined k.joined in
     let bytes : k.header_bytes ≡ h.header_bytes = once Url h.parts.header h.header_bytes k.header_bytes h.header_text (subst (λ (p : Parts). B64 Url p.header k.header_bytes) parts k.header_text) in
     let tree : k.tree ≡ h.tree = tree_is_determined h.header_bytes h.tree k.tree h.header_tree (subst (λ (b : List ℕ). Tree b k.tree) bytes k.header_tree) in
-    let header : y.header ≡ x.header = one_header h.tree x.header y.header h.header (subst (λ (t : Data). FirstHeaderOf t y.header) tree k.header) in
+    let header : y.header ≡ x.header = header_once h.tree x.header y.header h.header (subst (λ (t : Data). JwsHeaderOf t y.header) tree k.header) in
     let signature : y.signature ≡ x.signature = once Url h.parts.signature x.signature y.signature h.signature (subst (λ (p : Parts). B64 Url p.signature y.signature) parts k.signature) in
     let payload : y.payload ≡ x.payload = once Url h.parts.payload x.payload y.payload h.payload (subst (λ (p : Parts). B64 Url p.payload y.payload) parts k.payload) in
     λ i. record { header = header i; payload = payload i; signature = signature i }
+
+-- a token is its signed bytes, a dot and the text of its signature
+halved : (x : Reading) (token : List ℕ) (r : TokenReading x token) → token ≡ signed_bytes r ++ dot ∷ r.parts.signature
+halved x token r = r.joined.joined ∙ sym (append_assoc r.parts.header (dot ∷ r.parts.payload) (dot ∷ r.parts.signature))
+
+-- a token is told by the bytes before its last dot and its signature
+pub one_text : (x y : Reading) (s t : List ℕ) (r : TokenReading x s) (q : TokenReading y t) → signed_bytes q ≡ signed_bytes r → y.signature ≡ x.signature → t ≡ s
+one_text x y s t r q signed signature =
+    let after : q.parts.signature ≡ r.parts.signature = q.signature.spelled ∙ ap (encoding Url) signature ∙ sym r.signature.spelled in
+    let whole : List ℕ → List ℕ → List ℕ = λ m e. m ++ dot ∷ e in
+    halved y t q ∙ ap (λ m. whole m q.parts.signature) signed ∙ ap (whole (signed_bytes r)) after ∙ sym (halved x s r)

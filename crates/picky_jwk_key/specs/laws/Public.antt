@@ -36,7 +36,7 @@ named_exact names.Ed448 text = the_exact _ _
 named_exact names.X25519 text = edwards_exact X25519 text
 named_exact names.X448 text = the_exact _ _
 
-public_exact : (k : Key) → Exact (public_table k)
+pub public_exact : (k : Key) → Exact (public_table k)
 public_exact (rsa k) = rsa_exact k
 public_exact (ec k) = ec_exact k
 public_exact (ed k) = named_exact k.crv k.x
@@ -54,7 +54,7 @@ named_holds names.Ed448 text p h = h
 named_holds names.X25519 text p h = edwards_holds X25519 text p h
 named_holds names.X448 text p h = h
 
-public_holds : (k : Key) (p : PublicKeyKind) → (public_table k).holds p → KeyOfJwk k p
+pub public_holds : (k : Key) (p : PublicKeyKind) → (public_table k).holds p → KeyOfJwk k p
 unfolding rsa_table ec_table
 public_holds (rsa k) p h = record { n = h.0; e = h.2.0; spells_n = h.1; spells_e = h.2.1; is = h.2.2 }
 public_holds (ec k) p h = record { x = h.0; y = h.2.0; spells_x = h.1; spells_y = h.2.1; is = h.2.2 }
@@ -71,7 +71,7 @@ named_from names.Ed448 text p h = h
 named_from names.X25519 text p h = edwards_from X25519 text p h
 named_from names.X448 text p h = h
 
-public_from : (k : Key) (p : PublicKeyKind) → KeyOfJwk k p → (public_table k).holds p
+pub public_from : (k : Key) (p : PublicKeyKind) → KeyOfJwk k p → (public_table k).holds p
 unfolding rsa_table ec_table
 public_from (rsa k) p h = (h.n, h.spells_n, (h.e, h.spells_e, h.is))
 public_from (ec k) p h = (h.x, h.spells_x, (h.y, h.spells_y, h.is))

@@ -1,4 +1,4 @@
-use Rattle.std.proofs.Common.{◌≡◌, List, ℕ, sym, ap, ◌∙◌, subst}
+use Rattle.std.proofs.Common.{◌≡◌, sym, ap, ◌∙◌, subst}
 use Rattle.picky_key_der.specs.declared.ecdsa.EcdsaSignatureValue.{EcdsaSignatureValue}
 use Rattle.picky_key_der.specs.Ecdsa.{ecdsa_pair, pair_value, halves_of}
 use Rattle.picky_jose.specs.Signatures.{pair_der, pair_table}

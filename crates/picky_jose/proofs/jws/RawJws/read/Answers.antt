@@ -1,5 +1,5 @@
 use Rattle.std.proofs.Common.{inl, inr, refl}
-use Rattle.picky_jose.specs.Views.{header_view}
+use Rattle.picky_jws_header.specs.Views.{header_view}
 use Rattle.picky_jose.specs.Refusals.{token_table}
 use Rattle.picky_jose.proofs.jws.RawJws.read.Goals as goal
 

@@ -1,5 +1,0 @@
-use Rattle.picky_jwk_whole.specs.laws.Once.{set_once}
-use Rattle.picky_jwk_whole.proofs.laws.set_is_determined.Goals as goal
-
-pub returns : goal.returns
-returns c = set_once

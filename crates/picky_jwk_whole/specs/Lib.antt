@@ -1,5 +1,0 @@
-pub mod Jwk
-pub mod Views
-pub mod Trees
-pub mod Refusals
-pub mod laws

@@ -1,4 +1,0 @@
-pub mod Once
-pub mod Written
-pub mod Shallow
-pub mod Texts

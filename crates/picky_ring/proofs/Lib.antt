@@ -1,0 +1,3 @@
+pub mod TextMaps
+pub mod Causes
+pub mod Keys
