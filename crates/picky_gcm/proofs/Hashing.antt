@@ -1,39 +1,13 @@
 -- The blocks of padded bytes, and their hash one block after another.
-use Rattle.std.proofs.Common.{◌≡◌, ℕ, ◌+◌, ◌-◌, ◌*◌, ◌/◌, ◌%◌, ◌<◌, ◌≤◌, Bool, List, [], ◌∷◌, ◌++◌, length, map, take, drop, replicate, slice_range, min, refl, sym, ap, ◌∙◌, arith, inl, inr}
+use Rattle.std.proofs.Common.{◌≡◌, ℕ, ◌+◌, ◌-◌, ◌*◌, ◌/◌, ◌%◌, Bool, List, [], ◌∷◌, ◌++◌, length, map, replicate, slice_range, refl, sym, ap, ◌∙◌, arith}
 use Rattle.std.specs.List.{range_with_len}
 use Rattle.std.specs.Int.{div_ceil}
-use Rattle.std.proofs.lemmas.Bool.{cases_lt}
-use Rattle.std.proofs.lemmas.List.{append-nil, drop-append-le, drop-replicate, length-append, length-drop, length-replicate, take-append-le, take_all}
+use Rattle.std.proofs.lemmas.List.{length-append, length-replicate}
 use Rattle.std.proofs.lemmas.List.FromFn.{map-range_with_len_more}
 use Rattle.picky_gcm.specs.Hash.{Ghash, Ghash_from, blocks, hash_of, lengths, padded}
 use Rattle.picky_gcm.specs.Polynomial.{Mul, block_of, bytes_of, plus, zeros}
 
--- ---- padding
-front-padded : (d : List ℕ) (z n : ℕ) → n ≡ min (length d) 16 → (length d < 16 → z ≡ 16 - length d)
-    → take n d ++ replicate (16 - n) 0 ≡ take 16 (d ++ replicate z 0)
-front-padded d z n e short = elim (cases_lt (length d) 16) [
-  | inl lt ↦
-      let en : n ≡ length d = omega arith in
-      let ez : 16 - n ≡ z = omega (arith, short lt) in
-      let all : length (d ++ replicate z 0) ≤ 16 = omega (arith, short lt, length-append d (replicate z 0), length-replicate {A = ℕ} z 0) in
-      (λ i. take_all n d (omega arith) i ++ replicate (ez i) 0) ∙ sym (take_all 16 (d ++ replicate z 0) all)
-  | inr ge ↦
-      let en : n ≡ 16 = omega arith in
-      let none : 16 - n ≡ 0 = omega arith in
-      (λ i. take (en i) d ++ replicate (none i) 0) ∙ append-nil (take 16 d) ∙ sym (take-append-le 16 d (replicate z 0) ge)
-]
-
-pub padded-block : (bytes : List ℕ) (k n : ℕ) → 16 * k < length bytes → n ≡ min (length bytes - 16 * k) 16
-    → slice_range bytes (16 * k) (16 * k + n) ++ drop n (replicate 16 0) ≡ slice_range (padded bytes) (16 * k) (16 * k + 16)
-padded-block bytes k n h e =
-    let z : ℕ = (16 - length bytes % 16) % 16 in
-    let size : length (drop (16 * k) bytes) ≡ length bytes - 16 * k = length-drop (16 * k) bytes in
-    let count : 16 * k + n - 16 * k ≡ n = omega arith in
-    let whole : 16 * k + 16 - 16 * k ≡ 16 = omega arith in
-    (λ i. take (count i) (drop (16 * k) bytes) ++ drop-replicate n 16 0 i)
-    ∙ front-padded (drop (16 * k) bytes) z n (omega (arith, size)) (λ short. omega (arith, size, short))
-    ∙ (λ i. take (sym whole i) (sym (drop-append-le (16 * k) bytes (replicate z 0) (omega arith)) i))
-
+-- ---- the number of blocks
 pub count-padded : (bytes : List ℕ) → length (padded bytes) / 16 ≡ div_ceil (length bytes) 16
 count-padded bytes =
     let z : ℕ = (16 - length bytes % 16) % 16 in

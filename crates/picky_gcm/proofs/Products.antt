@@ -1,10 +1,10 @@
 -- Products with a block: of sums, of polynomials that begin with four coefficients, and of those of four alone.
-use Rattle.std.proofs.Common.{◌≡◌, ℕ, zero, suc, ◌+◌, ◌*◌, ◌/◌, ◌%◌, ◌^◌, Bool, true, false, List, [], ◌∷◌, ◌++◌, length, get_or, refl, sym, ap, ◌∙◌, arith, append_assoc, lit≤}
+use Rattle.std.proofs.Common.{◌≡◌, ℕ, zero, suc, ◌+◌, ◌*◌, ◌/◌, ◌%◌, ◌^◌, ◌<◌, Bool, true, false, List, [], ◌∷◌, ◌++◌, length, get_or, refl, sym, ap, ◌∙◌, arith, append_assoc, lit<, lit≤}
 use Rattle.std.proofs.lemmas.List.{append-nil}
 use Rattle.picky_gcm.specs.Polynomial.{Mul, block_of, coefficients, plus, remainder, scale, times_x, zeros}
-use Rattle.picky_gcm.specs.Table.{IsTable, pair_block, pair_bytes, times_x4}
+use Rattle.picky_gcm.specs.Table.{IsMoved, IsTable, pair_block, pair_bytes, times_x4}
 use Rattle.picky_gcm.proofs.Digits.{block-pair, coefficients-add, coefficients-low, pair-coefficients}
-use Rattle.picky_gcm.proofs.PairSteps.{length-pair_block, pair-zero}
+use Rattle.picky_gcm.proofs.PairSteps.{length-pair_block, pair-zero, times_x4-plus}
 use Rattle.picky_gcm.proofs.Walk.{Mul-walk, interchange, length-times_x, length-walk, plus-scale, plus-zeros, plus-zeros_right, plus_assoc, plus_comm, scale_false, scale_true, times_x-plus, times_x-walk, times_x-zeros, walk}
 use borrow.Author.Count.{below_more, below_none}
 
@@ -61,6 +61,16 @@ step-four x n m p h z t e w l em ez et ee ew =
     ∙ ap (λ c. plus (Mul c h) (times_x4 (Mul rest h))) (low-four y)
     ∙ sym (Mul_four _ _ _ _ rest h l)
     ∙ ap (λ c. Mul c h) (sym more)
+
+-- two steps: u is x ^ 8 times z, d the later entry times x ^ 4, e the other entry, w their sum
+pub step-eight : (x n m : ℕ) (p h z u d e s w : List Bool) → length h ≡ 128 → m ≡ n + 8 → z ≡ Mul (coefficients n x ++ p) h → u ≡ times_x4 (times_x4 z)
+    → d ≡ times_x4 (Mul (coefficients 4 (x / 2 ^ n % 16)) h) → e ≡ Mul (coefficients 4 (x / 2 ^ (n + 4) % 16)) h → s ≡ plus u d → w ≡ plus s e
+    → w ≡ Mul (coefficients m x ++ p) h
+step-eight x n m p h z u d e s w l em ez eu ed ee es ew =
+    let c : List Bool = Mul (coefficients 4 (x / 2 ^ n % 16)) h in
+    let half : plus (times_x4 z) c ≡ Mul (coefficients (n + 4) x ++ p) h = step-four x n (n + 4) p h z (times_x4 z) c (plus (times_x4 z) c) l refl ez refl refl refl in
+    let sum : s ≡ times_x4 (plus (times_x4 z) c) = es ∙ (λ i. plus (eu i) (ed i)) ∙ sym (times_x4-plus (times_x4 z) c) in
+    step-four x (n + 4) m p h (plus (times_x4 z) c) s e w l (omega arith) half sum ee ew
 
 -- ---- the products of four coefficients alone
 times_one : (m : ℕ) (h : List Bool) → length h ≡ 128 → Mul (zeros m) h ≡ zeros 128
@@ -155,6 +165,34 @@ table-is k e1 e2 e3 e4 e5 e6 e7 e9 e10 e11 e12 e13 e14 e15 p4 p2 p1 p3 p5 p6 p7 
     below_more P 15 (below_more P 14 (below_more P 13 (below_more P 12 (below_more P 11 (below_more P 10 (below_more P 9 (below_more P 8
     (below_more P 7 (below_more P 6 (below_more P 5 (below_more P 4 (below_more P 3 (below_more P 2 (below_more P 1 (below_more P 0 (below_none P)
     (entry-0 h l)) i1) i2) i3) i4) i5) i6) i7) i8) i9) i10) i11) i12) i13) i14) i15
+
+-- ---- the table moved by x ^ 4
+moved-entry : (h : List Bool) (t : List (ℕ × ℕ)) (k : ℕ) (r : ℕ × ℕ) → IsTable h t → k < 16 → pair_block r ≡ times_x4 (pair_block (get_or t k (0, 0))) → pair_block r ≡ times_x4 (Mul (coefficients 4 k) h)
+moved-entry h t k r table l e = e ∙ ap (λ v. times_x4 v) (table k l)
+
+pub moved-is : (h : List Bool) (t : List (ℕ × ℕ)) (r0 r1 r2 r3 r4 r5 r6 r7 r8 r9 r10 r11 r12 r13 r14 r15 : ℕ × ℕ) → IsTable h t
+    → pair_block r0 ≡ times_x4 (pair_block (get_or t 0 (0, 0)))
+    → pair_block r1 ≡ times_x4 (pair_block (get_or t 1 (0, 0)))
+    → pair_block r2 ≡ times_x4 (pair_block (get_or t 2 (0, 0)))
+    → pair_block r3 ≡ times_x4 (pair_block (get_or t 3 (0, 0)))
+    → pair_block r4 ≡ times_x4 (pair_block (get_or t 4 (0, 0)))
+    → pair_block r5 ≡ times_x4 (pair_block (get_or t 5 (0, 0)))
+    → pair_block r6 ≡ times_x4 (pair_block (get_or t 6 (0, 0)))
+    → pair_block r7 ≡ times_x4 (pair_block (get_or t 7 (0, 0)))
+    → pair_block r8 ≡ times_x4 (pair_block (get_or t 8 (0, 0)))
+    → pair_block r9 ≡ times_x4 (pair_block (get_or t 9 (0, 0)))
+    → pair_block r10 ≡ times_x4 (pair_block (get_or t 10 (0, 0)))
+    → pair_block r11 ≡ times_x4 (pair_block (get_or t 11 (0, 0)))
+    → pair_block r12 ≡ times_x4 (pair_block (get_or t 12 (0, 0)))
+    → pair_block r13 ≡ times_x4 (pair_block (get_or t 13 (0, 0)))
+    → pair_block r14 ≡ times_x4 (pair_block (get_or t 14 (0, 0)))
+    → pair_block r15 ≡ times_x4 (pair_block (get_or t 15 (0, 0)))
+    → IsMoved h (r0 ∷ r1 ∷ r2 ∷ r3 ∷ r4 ∷ r5 ∷ r6 ∷ r7 ∷ r8 ∷ r9 ∷ r10 ∷ r11 ∷ r12 ∷ r13 ∷ r14 ∷ r15 ∷ [])
+moved-is h t r0 r1 r2 r3 r4 r5 r6 r7 r8 r9 r10 r11 r12 r13 r14 r15 table e0 e1 e2 e3 e4 e5 e6 e7 e8 e9 e10 e11 e12 e13 e14 e15 =
+    let l : List (ℕ × ℕ) = r0 ∷ r1 ∷ r2 ∷ r3 ∷ r4 ∷ r5 ∷ r6 ∷ r7 ∷ r8 ∷ r9 ∷ r10 ∷ r11 ∷ r12 ∷ r13 ∷ r14 ∷ r15 ∷ [] in
+    let P = λ (i : ℕ). pair_block (get_or l i (0, 0)) ≡ times_x4 (Mul (coefficients 4 i) h) in
+    below_more P 15 (below_more P 14 (below_more P 13 (below_more P 12 (below_more P 11 (below_more P 10 (below_more P 9 (below_more P 8 (below_more P 7 (below_more P 6 (below_more P 5 (below_more P 4 (below_more P 3 (below_more P 2 (below_more P 1 (below_more P 0 (below_none P)
+    (moved-entry h t 0 r0 table (lit< tt) e0)) (moved-entry h t 1 r1 table (lit< tt) e1)) (moved-entry h t 2 r2 table (lit< tt) e2)) (moved-entry h t 3 r3 table (lit< tt) e3)) (moved-entry h t 4 r4 table (lit< tt) e4)) (moved-entry h t 5 r5 table (lit< tt) e5)) (moved-entry h t 6 r6 table (lit< tt) e6)) (moved-entry h t 7 r7 table (lit< tt) e7)) (moved-entry h t 8 r8 table (lit< tt) e8)) (moved-entry h t 9 r9 table (lit< tt) e9)) (moved-entry h t 10 r10 table (lit< tt) e10)) (moved-entry h t 11 r11 table (lit< tt) e11)) (moved-entry h t 12 r12 table (lit< tt) e12)) (moved-entry h t 13 r13 table (lit< tt) e13)) (moved-entry h t 14 r14 table (lit< tt) e14)) (moved-entry h t 15 r15 table (lit< tt) e15)
 
 -- ---- a polynomial of 64 coefficients and the others
 pub half-begins : (x : ℕ) (p : List Bool) → p ≡ coefficients 0 x ++ p

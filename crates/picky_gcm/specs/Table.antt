@@ -18,3 +18,7 @@ IsTable h entries = (i : ℕ) → i < 16 → pair_block (get_or entries i (0, 0)
 -- x ^ 4 times a block
 abbrev pub times_x4 : List Bool → List Bool
 times_x4 v = times_x (times_x (times_x (times_x v)))
+
+-- entry i is x ^ 4 times what entry i of the table is
+abbrev pub IsMoved : List Bool → List (ℕ × ℕ) → Type 0
+IsMoved h entries = (i : ℕ) → i < 16 → pair_block (get_or entries i (0, 0)) ≡ times_x4 (Mul (coefficients 4 i) h)

@@ -2,9 +2,9 @@
 ghost use Rattle.std.specs.Prelude.{◌≡◌, ◌<◌, ◌≤◌, ◌+◌, ◌-◌, ◌*◌, ◌^◌, ◌++◌, Bool, List, get_or, length, slice_range};
 ghost use Rattle.picky_gcm.specs.Hash.{Ghash_from, blocks, hash_of, padded};
 ghost use Rattle.picky_gcm.specs.Polynomial.{Mul, block_of, coefficients};
-ghost use Rattle.picky_gcm.specs.Table.{IsTable, pair_block};
+ghost use Rattle.picky_gcm.specs.Table.{IsMoved, IsTable, pair_block};
 
-use crate::pairs::{add, bytes_of, pair_of, times_x, times_x4};
+use crate::pairs::{add, bytes_of, pair_of, times_x, times_x4, times_x8};
 use std::marker::Model;
 
 // Block `k` of the bytes, with zeros past their end.
@@ -13,9 +13,13 @@ fn padded_block(bytes: &[u8], k: usize) -> [u8; 16]
     ensures { result ≡ slice_range (padded bytes.now) (16 * k) (16 * k + 16) }
 {
     let start = 16 * k;
-    let count = (bytes.len() - start).min(16);
     let mut block = [0; 16];
-    block[..count].copy_from_slice(&bytes[start..start + count]);
+    if bytes.len() - start >= 16 {
+        block.copy_from_slice(&bytes[start..start + 16]);
+    } else {
+        let count = bytes.len() - start;
+        block[..count].copy_from_slice(&bytes[start..start + count]);
+    }
     block
 }
 
@@ -97,32 +101,61 @@ impl HashTable {
         &self.entries
     }
 
+    // x^4 times each of the sixteen products.
+    fn moved(&self) -> [(u64, u64); 16]
+        ensures { IsMoved (block_of self.now) result }
+    {
+        let e = &self.entries;
+        [
+            times_x4(e[0]),
+            times_x4(e[1]),
+            times_x4(e[2]),
+            times_x4(e[3]),
+            times_x4(e[4]),
+            times_x4(e[5]),
+            times_x4(e[6]),
+            times_x4(e[7]),
+            times_x4(e[8]),
+            times_x4(e[9]),
+            times_x4(e[10]),
+            times_x4(e[11]),
+            times_x4(e[12]),
+            times_x4(e[13]),
+            times_x4(e[14]),
+            times_x4(e[15]),
+        ]
+    }
+
     // The product of the hash key and a polynomial that begins with 64 coefficients, of which `after` is the product of
-    // the others.
-    fn times_half(&self, half: u64, after: (u64, u64)) -> (u64, u64)
+    // the others: two entries a step, four coefficients each, the later four from the entries that are moved by x^4.
+    fn times_half(&self, moved: &[(u64, u64); 16], half: u64, after: (u64, u64)) -> (u64, u64)
+        requires { IsMoved (block_of self.now) moved.now }
         ensures { (p : List Bool) → pair_block after ≡ Mul p (block_of self.now) → pair_block result ≡ Mul (coefficients 64 half ++ p) (block_of self.now) }
     {
         let mut product = after;
-        for i in 0..16u32 {
-            let entry = self.entries[((half >> (4 * i)) % 16) as usize];
-            product = add(times_x4(product), entry);
+        for i in 0..8u32 {
+            let later = moved[((half >> (8 * i)) % 16) as usize];
+            let entry = self.entries[((half >> (8 * i + 4)) % 16) as usize];
+            product = add(add(times_x8(product), later), entry);
         }
         product
     }
 
-    fn multiply(&self, block: (u64, u64)) -> (u64, u64)
+    fn multiply(&self, moved: &[(u64, u64); 16], block: (u64, u64)) -> (u64, u64)
+        requires { IsMoved (block_of self.now) moved.now }
         ensures { pair_block result ≡ Mul (pair_block block) (block_of self.now) }
     {
-        self.times_half(block.0, self.times_half(block.1, (0, 0)))
+        self.times_half(moved, block.0, self.times_half(moved, block.1, (0, 0)))
     }
 
     // The hash of what was hashed to `before` and of the blocks of more bytes.
-    fn hashed_on(&self, before: (u64, u64), bytes: &[u8]) -> (u64, u64)
+    fn hashed_on(&self, moved: &[(u64, u64); 16], before: (u64, u64), bytes: &[u8]) -> (u64, u64)
+        requires { IsMoved (block_of self.now) moved.now }
         ensures { pair_block result ≡ Ghash_from (block_of self.now) (pair_block before) (blocks (padded bytes.now)) }
     {
         let mut hash = before;
         for k in 0..bytes.len().div_ceil(16) {
-            hash = self.multiply(add(hash, pair_of(padded_block(bytes, k))));
+            hash = self.multiply(moved, add(hash, pair_of(padded_block(bytes, k))));
         }
         hash
     }
@@ -134,9 +167,10 @@ impl HashTable {
         requires text { length text.now ≤ 2 ^ 36 - 32 }
         ensures { result ≡ hash_of self.now aad.now text.now }
     {
-        let of_aad = self.hashed_on((0, 0), aad);
-        let of_both = self.hashed_on(of_aad, text);
+        let moved = self.moved();
+        let of_aad = self.hashed_on(&moved, (0, 0), aad);
+        let of_both = self.hashed_on(&moved, of_aad, text);
         let lengths = (8 * aad.len() as u64, 8 * text.len() as u64);
-        bytes_of(self.multiply(add(of_both, lengths)))
+        bytes_of(self.multiply(&moved, add(of_both, lengths)))
     }
 }

@@ -1,5 +1,5 @@
 // Blocks as pairs of numbers: the first and the last eight bytes, the highest byte first.
-ghost use Rattle.std.specs.Prelude.{◌≡◌, ◌∷◌, ◌<◌, false};
+ghost use Rattle.std.specs.Prelude.{◌≡◌, ◌∷◌, ◌<◌, ◌%◌, false};
 ghost use Rattle.picky_gcm.specs.Polynomial.{coefficients, plus, remainder, times_x};
 ghost use Rattle.picky_gcm.specs.Table.{pair_block, pair_bytes, times_x4};
 
@@ -60,11 +60,13 @@ pub(crate) fn times_x(pair: (u64, u64)) -> (u64, u64)
     }
 }
 
-// The first half of what four coefficients leave that x^4 takes past x^127.
+// The first half of what four coefficients leave that x^4 takes past x^127. Its last four bits are zero, so that x^4 times it
+// takes nothing past x^127.
 #[inline(always)]
 fn reduced(fallen: u64) -> u64
     requires { fallen < 16 }
-    ensures { pair_block (result, 0) ≡ remainder (false ∷ false ∷ false ∷ false ∷ coefficients 128 fallen) }
+    ensures left { pair_block (result, 0) ≡ remainder (false ∷ false ∷ false ∷ false ∷ coefficients 128 fallen) }
+    ensures last { result % 16 ≡ 0 }
 {
     REDUCTION[fallen as usize]
 }
@@ -75,4 +77,16 @@ pub(crate) fn times_x4(pair: (u64, u64)) -> (u64, u64)
     let (high, low) = pair;
     let shifted = (high >> 4, (high << 60) | (low >> 4));
     add(shifted, (reduced(low % 16), 0))
+}
+
+// Eight coefficients fall past x^127 at once: what the last four leave is moved on by x^4.
+#[inline(always)]
+pub(crate) fn times_x8(pair: (u64, u64)) -> (u64, u64)
+    ensures { pair_block result ≡ times_x4 (times_x4 (pair_block pair)) }
+{
+    let (high, low) = pair;
+    let shifted = (high >> 8, (high << 56) | (low >> 8));
+    let first = reduced((low >> 4) % 16);
+    let last = reduced(low % 16);
+    add(shifted, (first ^ (last >> 4), 0))
 }
