@@ -6,9 +6,10 @@ mod batch;
 mod entry;
 mod identifiers;
 
-pub use bag::{Bag, BagKind, read_levels, write_levels};
+pub use bag::{Bag, BagKind};
 pub use batch::Batch;
 pub use entry::Entry;
+pub use picky_levels::{read_levels, write_levels};
 
 // The contents octets of 2.5.4.3.
 const NAME: [u8; 3] = [0x55, 0x04, 0x03];

@@ -7,7 +7,7 @@
 use crate::der::faults::{bytes_or_refusal, refusal};
 use crate::der::values::comes_back;
 use anyhow::{Result, bail};
-use der_examples::{Batch, Entry, read_levels};
+use der_examples::{Bag, Batch, Entry, read_levels, write_levels};
 use picky_der::{DerRead, DerReader, DerWrite, from_bytes, to_vec};
 use rows::{Answer, Words};
 use std::alloc::Global;
@@ -52,9 +52,19 @@ fn told(alloc: Global, bytes: &[u8]) -> Result<Answer> {
 }
 
 fn levels(alloc: Global, bytes: &[u8], levels: u32) -> Result<Answer> {
-    match read_levels(alloc, &mut DerReader::new(bytes), levels) {
-        Ok(Some(_)) => Ok(Answer::Word("read")),
+    match read_levels::<Bag>(alloc, &mut DerReader::new(bytes), levels) {
+        Ok(Some(bag)) => written(alloc, &bag, levels, bytes),
         Ok(None) => Ok(Answer::Word("none")),
+        Err(fault) => refusal(fault),
+    }
+}
+
+// A bag that was read is written as the bytes that it was read from.
+fn written(alloc: Global, bag: &Bag, levels: u32, bytes: &[u8]) -> Result<Answer> {
+    let mut out = Vec::new(alloc);
+    match write_levels(alloc, bag, levels, &mut out) {
+        Ok(()) if bytes.starts_with(&out) => Ok(Answer::Word("read")),
+        Ok(()) => Ok(Answer::Word("changed")),
         Err(fault) => refusal(fault),
     }
 }

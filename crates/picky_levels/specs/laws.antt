@@ -1,0 +1,3 @@
+-- The laws of records that hold items of their own type.
+pub mod Nests
+pub mod Steps
