@@ -1,5 +1,5 @@
 -- The pair of an ECDSA signature, and refusals of a signature as those of a token.
-use Rattle.std.specs.Prelude.{◌≢◌, ◌*◌, ⊤, IfSome}
+use Rattle.std.specs.Prelude.{◌≢◌, ◌*◌, IfSome}
 use Rattle.std.proofs.Common.{◌≡◌, ℕ, ◌+◌, ◌<◌, List, [], length, take, drop, inl, inr, refl, ap, arith, length-drop}
 use Rattle.std.proofs.lemmas.List.{length-take-le}
 use Rattle.picky_asn1_bits.proofs.Numbers.{IsShortest-unsigned_spelling}
@@ -39,7 +39,7 @@ pub pair_accepted : (size : ℕ) (s : List ℕ) → 0 < size → length s ≡ 2 
 pair_accepted size s more both refused = ecdsa_pair_lawful.writable.accepted (pair_value (halves_of size s)) (formed size s more both) refused
 
 -- a refusal of a signature is one of the token
-pub carried : (e : SignatureError) (t : Table ⊤ SignatureFault) → IfSome (own_fault e) t.refuses → IfSome (jws_fault (jws_error_of e)) (named signature t).refuses
+pub carried : {X : Type 0} (e : SignatureError) (t : Table X SignatureFault) → IfSome (own_fault e) t.refuses → IfSome (jws_fault (jws_error_of e)) (named signature t).refuses
 carried UnsupportedAlgorithm t h = (_, h, refl)
 carried BadSignature t h = (_, h, refl)
 carried (Ec expected got) t h = (_, h, refl)

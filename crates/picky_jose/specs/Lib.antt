@@ -8,4 +8,6 @@ pub mod Verified
 pub mod Dates
 pub mod Validator
 pub mod Claims
+pub mod Signing
+pub mod Encoding
 pub mod laws

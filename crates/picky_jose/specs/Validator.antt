@@ -21,11 +21,6 @@ strict d = record { date = Some d; nbf = Required; exp = Required }
 abbrev pub no_check : Validator
 no_check = record { date = None; nbf = Ignored; exp = Ignored }
 
--- there is a date, and both claims may be absent
-pub record IsLenient (v : Validator) : Type 0 where
-  pub date : JwtDate
-  pub is : v ≡ lenient date
-
 -- a claim is required only where there is a date
 abbrev pub can_judge : Option JwtDate → ClaimCheck → ClaimCheck → Bool
 can_judge None Required _ = false

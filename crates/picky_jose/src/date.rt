@@ -228,15 +228,6 @@ impl JwtValidator {
         }
     }
 
-    /// Whether there is a date, and an absent `nbf` or `exp` passes.
-    pub fn is_lenient(&self) -> bool
-        ensures { IsTrue result ↔ validator.IsLenient self.now }
-    {
-        self.current_date.is_some()
-            && self.not_before == ClaimCheck::Optional
-            && self.expiration == ClaimCheck::Optional
-    }
-
     // Whether a claim is required only where there is a date.
     pub(crate) fn can_judge(&self) -> bool
         ensures { result ≡ validator.can_judge self.now.date self.now.nbf self.now.exp }

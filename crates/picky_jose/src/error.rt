@@ -1,6 +1,5 @@
 // Errors of tokens.
-ghost use Rattle.std.specs.Prelude.{◌≡◌, ◌↔◌, IsTrue, None};
-ghost use Rattle.picky_jose.specs.Faults.{jws_fault};
+ghost use Rattle.std.specs.Prelude.{◌≡◌};
 
 use crate::date::JwtDate;
 use picky_key::{ProviderFault, SignatureError};
@@ -35,7 +34,7 @@ pub enum JwtError {
     /// The signed token isn't accepted.
     #[error("JWS error: {source}")]
     Jws { source: JwsError },
-    /// The payload isn't JSON.
+    /// The payload isn't JSON, or its tree tells no value of the type of the claims.
     #[error("JSON error")]
     Json,
     /// A date of the claims isn't an integer in `i64`.
@@ -58,15 +57,6 @@ pub enum JwtError {
     Float,
     #[error("out of memory")]
     OutOfMemory,
-}
-
-impl JwsError {
-    /// Whether the error says that there was no memory.
-    pub fn is_out_of_memory(&self) -> bool
-        ensures { IsTrue result ↔ (jws_fault self.now ≡ None) }
-    {
-        matches!(self, JwsError::OutOfMemory)
-    }
 }
 
 impl From<AllocError> for JwsError {

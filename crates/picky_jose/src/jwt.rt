@@ -32,7 +32,7 @@ pub struct CheckedState<C> {
 /// The payload of a token whose claims aren't checked.
 #[derive(Debug, Drop)]
 pub struct UncheckedState {
-    payload: Vec<u8>,
+    pub(crate) payload: Vec<u8>,
 }
 
 /// A signed token whose claims aren't checked.

@@ -28,7 +28,7 @@ pub(crate) enum Asked {
     Pair(HashAlgorithm, EcCurve),
 }
 
-fn asked_by(alg: JwsAlg) -> Asked
+pub(crate) fn asked_by(alg: JwsAlg) -> Asked
     ensures { result ≡ asked_of alg }
 {
     match alg {
