@@ -1,5 +1,6 @@
 #!/usr/bin/env python3
-"""Prints the rows of `gate_rows`: its tokens by Python's base64, signing strings joined from their lines, digests of files by hashlib.
+"""Prints the rows of `gate_rows`: its tokens by Python's base64, signing strings joined from their lines, digests of files by hashlib, and the
+texts that seeds make with the words of ChaCha20 of Python's `cryptography`.
 
 The first lines name the texts in base64url that rows and documents are made of. With `--documents` it writes the
 documents that rows name into crates/gate_rows/data.
@@ -9,6 +10,8 @@ import hashlib
 import json
 import pathlib
 import sys
+
+from cryptography.hazmat.primitives.ciphers import Cipher, algorithms
 
 DATA = pathlib.Path(__file__).resolve().parent.parent / "crates/gate_rows/data"
 
@@ -597,6 +600,83 @@ FILE_RUNS = [
 ]
 
 
+# Texts that a seed makes: how many are admitted is counted here by comparing what each record records with what its token says.
+
+
+def words_of(seed, count):
+    """The first words of the key stream of ChaCha20 (RFC 8439, section 2.3) with the seed as its key, from block 0."""
+    key = seed.to_bytes(8, "little") + bytes(24)
+    stream = Cipher(algorithms.ChaCha20(key, bytes(16)), mode=None).encryptor().update(bytes(4 * count))
+    return [int.from_bytes(stream[4 * i : 4 * i + 4], "little") for i in range(count)]
+
+
+def generated(word, i):
+    """The token of a word and its number, and the fields of its record in bytes."""
+    signed = ".".join([spell(json.dumps(part, separators=(",", ":"))) for part in [{"alg": "EdDSA", "kid": f"k{word % 8}"}, {"exp": 1 + word // 8, "n": i}]])
+    message = signed.encode()
+    if i % 7 == 6:
+        message = message[:-1] + bytes([message[-1] ^ 1])
+    return signed, word.to_bytes(4, "big"), bytes.fromhex("302a300506032b6570032100") + bytes([word % 8] * 32), message
+
+
+def unpadded(data):
+    return base64.urlsafe_b64encode(data).rstrip(b"=").decode()
+
+
+def generated_text(word, i):
+    signed, signature, _, _ = generated(word, i)
+    return f"Bearer {signed}.{unpadded(signature)}"
+
+
+def generated_record(word, i):
+    _, signature, key, message = generated(word, i)
+    return f"sig ed25519-sha512 {unpadded(key)} {unpadded(message)} {unpadded(signature)}\\n"
+
+
+def counted(seed, count):
+    """How many texts have a record of the bytes that they sign."""
+    return sum(signed.encode() == message for signed, _, _, message in (generated(word, i) for i, word in enumerate(words_of(seed, count))))
+
+
+def generate(seed, count):
+    return f"|generate|--seed|{seed}|--count|{count}"
+
+
+def generated_line(seed, count):
+    good = counted(seed, count)
+    return f"generated {count} admitted {good} refused {count - good}\\n"
+
+
+# words that are no command `generate`
+NO_GENERATE = [
+    ("no words after the name", "|generate"),
+    ("a seed alone", "|generate|--seed|1"),
+    ("a count alone", "|generate|--count|1"),
+    ("a seed twice", "|generate|--seed|1|--seed|1"),
+    ("a count twice", "|generate|--count|1|--count|1"),
+    ("a seed twice and a count", "|generate|--seed|1|--seed|1|--count|1"),
+    ("a further flag", "|generate|--seed|1|--count|1|--keys|keys"),
+    ("a flag of admit", "|generate|--seed|1|--now|1"),
+    ("a flag without its value", "|generate|--seed|1|--count"),
+    ("flags side by side", "|generate|--seed|--count|1|1"),
+    ("a seed of 21 digits", generate("000000000000000000001", 1)),
+    ("a seed of 2^64", generate(1 << 64, 1)),
+    ("the greatest 20 digits as a seed", generate("9" * 20, 1)),
+    ("a seed that is empty", generate("", 1)),
+    ("a seed with a sign", generate("+1", 1)),
+    ("a negative seed", generate("-1", 1)),
+    ("a seed with a space", generate("1 ", 1)),
+    ("a count above 10,000", generate(1, 10001)),
+    ("a count of six digits", generate(1, "000001")),
+    ("a count that is empty", generate(1, "")),
+    ("a count with a sign", generate(1, "+1")),
+    ("a negative count", generate(1, "-1")),
+    ("the command in upper case", "|GENERATE|--seed|1|--count|1"),
+    ("the command twice", "|generate|generate|--seed|1|--count|1"),
+    ("its flags for admit", "|admit|--seed|1|--count|1"),
+]
+
+
 def row(name, call, answer):
     print(f"{name}: {call}".rstrip() + f" => {answer}")
 
@@ -646,6 +726,31 @@ def print_cabinets():
         row(name, f"gate.run_fixed {call}", f"{status} {text}")
 
 
+def print_generated():
+    print("# Texts that a seed makes, and their records, with the words of Python's ChaCha20; each seventh record is of another message")
+    for seed, numbers in [(1, [0, 1, 6, 16, 699]), ((1 << 64) - 1, [0, 13]), (0, [0])]:
+        for i in numbers:
+            word = words_of(seed, i + 1)[i]
+            row(f"text {i} of seed {seed}", f"generated.text {seed} {i}", generated_text(word, i))
+            row(f"record {i} of seed {seed}", f"generated.record {seed} {i}", generated_record(word, i))
+    print()
+    print("# Each of the texts by admit: how many are admitted, and how many are refused for their signatures")
+    for seed, count in [(1, 0), (1, 6), (1, 7), (1, 700)]:
+        good = counted(seed, count)
+        row(f"{count} texts of seed {seed}", f"generated.each {seed} {count}", f"{good} {count - good}")
+    print()
+    print("# The command generate")
+    for seed, count in [(1, 700), (1, 0), (7, 10000), (0, 1), ((1 << 64) - 1, 7), ("0" * 19 + "1", "00014")]:
+        row(f"{count} texts of seed {seed}", f"gate.run {generate(seed, count)}", f"0 {generated_line(int(seed), int(count))}")
+    row("the count first", "gate.run |generate|--count|7|--seed|3", f"0 {generated_line(3, 7)}")
+    row("nothing is asked for", f"gate.asked {generate(1, 7)}", "-")
+    for name, call in NO_GENERATE:
+        row(name, f"gate.run {call}", "2 usage\\n")
+    print()
+    print("# Each room for its output")
+    rooms(generate(1, 7), generated_line(1, 7))
+
+
 def print_asked():
     print("# What a run asks its cabinet for")
     for name, call, paths in [
@@ -692,5 +797,7 @@ else:
     print_cabinets()
     print()
     print_asked()
+    print()
+    print_generated()
     print()
     print_files()

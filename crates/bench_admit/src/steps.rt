@@ -14,7 +14,7 @@ use std::time::Instant;
 const NOW: i64 = 1_700_000_000;
 
 // Prints a step's name, how often it was done, and the microseconds since then.
-fn report(rt: &HostRuntime, name: &str, count: u64, start: &Instant) -> Result<()> {
+pub(crate) fn report(rt: &HostRuntime, name: &str, count: u64, start: &Instant) -> Result<()> {
     let micros = start.elapsed(rt)?.as_micros();
     println!(rt; "{name} {count} {micros}")?;
     Ok(())

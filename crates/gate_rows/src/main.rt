@@ -2,6 +2,7 @@
 #![tactic(auto)]
 
 mod files;
+mod generated;
 mod outcomes;
 mod runs;
 
@@ -16,6 +17,7 @@ impl HostCalls for Gate {
         match notion {
             "gate" => runs::answer(rt, call, words),
             "file" => files::answer(rt, call, words),
+            "generated" => generated::answer(rt, call, words),
             _ => bail!("no such call"),
         }
     }

@@ -2,11 +2,11 @@
 use Rattle.std.proofs.Common.{◌≡◌, ℕ, List, Option, Some, None, IfSome, subst}
 use Rattle.std.specs.Prelude.{IsSomeAnd}
 use Rattle.picky_gate.specs.declared.documents.Documents.{Documents}
-use Rattle.picky_gate.specs.Command.{Admit, IsCommand}
+use Rattle.picky_gate.specs.Command.{Admit, IsAdmit}
 use Rattle.picky_gate.specs.Documents.{decision}
 use Rattle.picky_gate.specs.Faults.{Why}
 use Rattle.picky_gate.specs.Lines.{why_status, why_text}
-use Rattle.picky_gate.specs.Reply.{AreFetched, Reply, usage, unread, admitted, failed, ComesTo, IsReply, Delivers, Said}
+use Rattle.picky_gate.specs.Reply.{AreFetched, Reply, usage, unread, admitted, failed, generated, ComesTo, IsReply, Delivers, Said}
 use Rattle.picky_gate.specs.Run.{Run, Asked, paths_of}
 
 -- two names of one text and of one status
@@ -20,8 +20,9 @@ said_fault c docs None code bytes due none = absurd none
 said_fault c docs (Some why) code bytes due line = record { reply = failed why; is = due; status = line.0; text = line.1 }
 
 -- what the command comes to is a reply
-pub is_reply : (run : Run) (c : Admit) (docs : Documents) (reply : Reply) → IsCommand run.words c → Asked run (paths_of c) → AreFetched run.content c docs → ComesTo c docs reply → IsReply run reply
+pub is_reply : (run : Run) (c : Admit) (docs : Documents) (reply : Reply) → IsAdmit run.words c → Asked run (paths_of c) → AreFetched run.content c docs → ComesTo c docs reply → IsReply run reply
 is_reply run c docs usage is asked fetched none = absurd none
 is_reply run c docs (unread document) is asked fetched none = absurd none
 is_reply run c docs (admitted a) is asked fetched comes = record { command = c; docs = docs; is_command = is; asked = asked; fetched = fetched; comes_to = comes }
 is_reply run c docs (failed why) is asked fetched comes = record { command = c; docs = docs; is_command = is; asked = asked; fetched = fetched; comes_to = comes }
+is_reply run c docs (generated g n) is asked fetched none = absurd none

@@ -8,6 +8,11 @@ pub mod Vouching
 pub mod Schemes
 pub mod Delivery
 pub mod Deciding
+pub mod Rings
+pub mod Counting
+pub mod Generating
 pub mod Theorem
 pub mod Once
 pub mod Checking
+pub mod Made
+pub mod MadeHeaders

@@ -89,7 +89,55 @@ pub record AsksAdmit (words : List Text) (a : Admit) : Type 0 where
   pub leeway : StandsAtMostOnce IsLeeway (codes "--leeway") words a.leeway
   pub checks : StandsAtMostOnce IsChecks (codes "--checks") words a.checks
 
+-- ---- `generate`
+
+-- a seed: 1 to 20 digits, at most 2^64 - 1
+abbrev pub IsSeed : Text → ℕ → Type 0
+IsSeed = IsNumber 20 18446744073709551615
+
+-- a count of texts: 1 to 5 digits, at most 10,000
+abbrev pub IsCount : Text → ℕ → Type 0
+IsCount = IsNumber 5 10000
+
+-- the words are the two flags, each with its value, in either order
+abbrev pub AreTwo : List Text → Text → Text → Type 0
+AreTwo words seed count =
+    (words ≡ codes "--seed" ∷ seed ∷ codes "--count" ∷ count ∷ [])
+    ⊎ (words ≡ codes "--count" ∷ count ∷ codes "--seed" ∷ seed ∷ [])
+
+-- what `generate` is asked: a seed, and how many texts are made of it
+pub record Generate : Type 0 where
+  pub seed : ℕ
+  pub count : ℕ
+
+-- the words ask this of `generate`
+pub record AsksGenerate (words : List Text) (g : Generate) : Type 0 where
+  pub seed : Text
+  pub count : Text
+  pub are : AreTwo words seed count
+  pub is_seed : IsSeed seed g.seed
+  pub is_count : IsCount count g.count
+
+-- ---- the commands
+
+-- what the program is asked
+pub data Command : Type 0 where
+  admit : Admit → Command
+  generate : Generate → Command
+
+-- the command of this name is asked this by the words after it
+abbrev pub Asks : Text → List Text → Command → Type 0
+Asks name words (admit a) = (name ≡ codes "admit") × AsksAdmit words a
+Asks name words (generate g) = (name ≡ codes "generate") × AsksGenerate words g
+
 -- the words are this command of the program
-abbrev pub IsCommand : List Text → Admit → Type 0
-IsCommand [] a = ⊥
-IsCommand (first ∷ rest) a = (first ≡ codes "admit") × AsksAdmit rest a
+abbrev pub IsCommand : List Text → Command → Type 0
+IsCommand [] c = ⊥
+IsCommand (name ∷ words) c = Asks name words c
+
+-- the words are this command `admit`, or this command `generate`
+abbrev pub IsAdmit : List Text → Admit → Type 0
+IsAdmit words a = IsCommand words (admit a)
+
+abbrev pub IsGenerate : List Text → Generate → Type 0
+IsGenerate words g = IsCommand words (generate g)

@@ -11,6 +11,7 @@ pub mod Faults
 pub mod Request
 pub mod Documents
 pub mod Lines
+pub mod Generated
 pub mod Run
 pub mod Reply
 pub mod Headline

@@ -1,5 +1,5 @@
 -- What is printed, and the statuses of what isn't admitted (own).
-use Rattle.std.specs.Prelude.{ℕ, List, [], ◌∷◌, ◌++◌, map, codes, Option, Some, None}
+use Rattle.std.specs.Prelude.{ℕ, ◌-◌, List, [], ◌∷◌, ◌++◌, map, codes, Option, Some, None}
 use Rattle.serde_json.specs.Data.{Data}
 use Rattle.serde_json.specs.Written.{compact_text}
 use Rattle.picky_json.specs.Text.{json_text}
@@ -54,6 +54,10 @@ abbrev pub admitted_text : Admission → List ℕ
 admitted_text (token name header claims) = token_text name header.alg claims
 admitted_text (request name algorithm reading) = request_text name algorithm reading
 
+-- the line of n texts, of which a are admissible
+abbrev pub generated_text : ℕ → ℕ → List ℕ
+generated_text n a = codes "generated " ++ (decimal n ++ (codes " admitted " ++ (decimal a ++ (codes " refused " ++ (decimal (n - a) ++ codes "\n")))))
+
 -- what is printed as JSON has no float
 abbrev pub IsPrintable : Admission → Type 0
 IsPrintable (token name header claims) = FloatFree claims
@@ -89,7 +93,10 @@ http_text (http.not_yet_valid created now) = codes "Http.NotYetValid"
 http_text (http.expired end now) = codes "Http.Expired"
 http_text (http.signature fault) = codes "Http.Signature"
 http_text (http.no_line fault) = codes "Http.SigningStringGeneration"
+http_text (http.bad_line line) = codes "Http.InvalidSigningString"
 http_text (http.missing_argument argument) = codes "Http.MissingBuilderArgument"
+http_text http.covers_nothing = codes "Http.BuilderEmptyHeaders"
+http_text http.covers_beside = codes "Http.BuilderHeadersProvidedWithPreGenerated"
 http_text (http.missing_parameter parameter) = codes "Http.MissingRequiredParameter"
 http_text (http.invalid_parameter parameter) = codes "Http.InvalidParameter"
 http_text (http.incompatible algorithm) = codes "Http.IncompatibleAlgorithm"

@@ -40,7 +40,8 @@ pub enum Refusal {
     /// The text begins with neither scheme word.
     #[error("no such scheme")]
     NoScheme,
-    /// The ring has no key under the name that the text gives.
+    /// The text names no key (a token without `kid`), the ring has nothing under its name, or what stands there
+    /// checks no signatures.
     #[error("no such key")]
     NoKey,
     /// The header text is refused.

@@ -65,6 +65,20 @@ pub struct AdmitWords<'a> {
     pub checks: Option<Checks>,
 }
 
+/// What `generate` is asked: a seed, and how many texts are made of it.
+#[derive(Clone, Copy)]
+pub struct GenerateWords {
+    pub seed: u64,
+    pub count: u64,
+}
+
+/// What the program is asked.
+#[derive(Clone, Copy)]
+pub enum CommandWords<'a> {
+    Admit(AdmitWords<'a>),
+    Generate(GenerateWords),
+}
+
 impl AdmitWords<'_> {
     ghost use Rattle.picky_gate.specs.Asked.{admit_of};
     ghost use Rattle.picky_gate.specs.Moment.{checks_of, policy_of};

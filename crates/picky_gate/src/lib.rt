@@ -10,6 +10,7 @@ mod cabinet;
 mod documents;
 mod files;
 mod fixed;
+mod generated;
 mod header;
 pub mod laws;
 mod lines;

@@ -167,7 +167,12 @@ fn http_code(error: &HttpSignatureError) -> Result<&'static str, AllocError>
         HttpSignatureError::Expired { .. } => Ok("Http.Expired"),
         HttpSignatureError::Signature { .. } => Ok("Http.Signature"),
         HttpSignatureError::SigningStringGeneration { source } => line_code(source),
+        HttpSignatureError::InvalidSigningString { .. } => Ok("Http.InvalidSigningString"),
         HttpSignatureError::MissingBuilderArgument { .. } => Ok("Http.MissingBuilderArgument"),
+        HttpSignatureError::BuilderEmptyHeaders => Ok("Http.BuilderEmptyHeaders"),
+        HttpSignatureError::BuilderHeadersProvidedWithPreGenerated => {
+            Ok("Http.BuilderHeadersProvidedWithPreGenerated")
+        }
         HttpSignatureError::MissingRequiredParameter { .. } => {
             Ok("Http.MissingRequiredParameter")
         }

@@ -1,16 +1,16 @@
 // The program over any cabinet and any sink.
 ghost use Rattle.std.specs.Prelude.{◌≡◌, ◌≢◌, ◌⊎◌, ◌≤◌, ◌<◌, ℕ, List, IfOk, length, option_map, string_bytes};
 ghost use Rattle.picky_contract.specs.Causes.{Rose};
-ghost use Rattle.picky_gate.specs.Admissible.{Admission};
 ghost use Rattle.picky_gate.specs.Asked.{admit_of};
-ghost use Rattle.picky_gate.specs.Command.{texts_of, Admit, IsCommand};
+ghost use Rattle.picky_gate.specs.Command.{texts_of, Command, IsCommand};
 ghost use Rattle.picky_gate.specs.Documents.{limit};
-ghost use Rattle.picky_gate.specs.Lines.{admitted_text};
 ghost use Rattle.picky_gate.specs.Outcome.{Outcome};
 ghost use Rattle.picky_gate.specs.Outside.{IsFetched, Adds};
-ghost use Rattle.picky_gate.specs.Reply.{IsFetchedIf, AreFetched, UnfetchedCause, OneAsked, OneAskedIf, AllAsked, Delivers, Replies, Said, reply_text, unread};
+ghost use Rattle.picky_gate.specs.Reply.{IsFetchedIf, AreFetched, UnfetchedCause, OneAsked, OneAskedIf, AllAsked, Delivers, Replies, Said, IsSuccess, reply_text, unread};
 
+use crate::asked::CommandWords;
 use crate::documents::{Document, Documents, LIMIT, decide};
+use crate::generated::generated_line;
 use crate::lines::{admitted_lines, fault_line};
 use crate::sink::write_all;
 use crate::words::read_words;
@@ -18,7 +18,7 @@ use crate::{AdmitWords, Cabinet, FetchFault, Sink};
 use picky_contract::Bytes;
 use std::alloc::{AllocError, Global};
 
-/// The status of the program: 0 admitted, 1 refused, 2 the words are no command, 3 a document can't be
+/// The status of the program: 0 admitted or generated, 1 refused, 2 the words are no command, 3 a document can't be
 /// read, 4 a document is bad, 5 want of memory, 6 a write failed.
 #[derive(Clone, Copy, Debug, PartialEq, Eq)]
 pub struct Status {
@@ -162,8 +162,15 @@ fn perform<C: Cabinet, K: Sink>(
     ensures three { result.code ≡ 3 → Rose (C.faults cabinet.old) (C.faults cabinet.new) }
     ensures later { (C.faults cabinet.old ≤ C.faults cabinet.new) × (K.faults out.old ≤ K.faults out.new) }
 {
-    let Some(command) = read_words(words) else {
-        return finish(out, b"usage\n", 2);
+    let command = match read_words(words) {
+        Some(CommandWords::Admit(command)) => command,
+        Some(CommandWords::Generate(command)) => {
+            return match generated_line(alloc, command) {
+                Ok(line) => finish(out, line.as_bytes(), 0),
+                Err(_) => Status { code: 5 },
+            };
+        }
+        None => return finish(out, b"usage\n", 2),
     };
     let documents = match fetch_documents(alloc, cabinet, command) {
         Ok(documents) => documents,
@@ -178,8 +185,9 @@ fn perform<C: Cabinet, K: Sink>(
 
 /// The program: what the words ask, over the cabinet, into the sink.
 ///
-/// The words are a command, the documents are fetched (keys, records, then the request where one is named) and
-/// checked (records, keys, then the request), the text is judged, and the whole output is built before its first byte is written.
+/// For `admit` the documents are fetched (keys, records, then the request where one is named) and
+/// checked (records, keys, then the request), and the text is judged; for `generate` nothing is fetched, and each text is judged that the seed
+/// makes. The whole output is built before its first byte is written.
 pub fn run<C: Cabinet, K: Sink>(
     alloc: Global,
     words: &[String],
@@ -188,7 +196,8 @@ pub fn run<C: Cabinet, K: Sink>(
 ) -> Status
     // What was replied and asked, and the headline: over documents that are told, with no failure, the status is 0,
     // with its two lines, exactly where the text is admissible, otherwise the code is that of the first condition
-    // that fails. Want of memory is free.
+    // that fails; a command `generate` ends with status 0 and the line of how many of its texts are admissible. Want of
+    // memory is free.
     ensures outcome { Outcome (record {
       words = texts_of words.now;
       status = result.code;
@@ -208,12 +217,13 @@ pub fn run<C: Cabinet, K: Sink>(
     ensures later { (C.faults cabinet.old ≤ C.faults cabinet.new) × (K.faults out.old ≤ K.faults out.new) }
 
     // Words that are no command: 2, or 6 where a write failed; and 2 comes only of such words.
-    ensures no_command { ((c : Admit) → ¬ (IsCommand (texts_of words.now) c)) → (result.code ≡ 2) ⊎ (result.code ≡ 6) }
-    ensures two { result.code ≡ 2 → (c : Admit) → ¬ (IsCommand (texts_of words.now) c) }
+    ensures no_command { ((c : Command) → ¬ (IsCommand (texts_of words.now) c)) → (result.code ≡ 2) ⊎ (result.code ≡ 6) }
+    ensures two { result.code ≡ 2 → (c : Command) → ¬ (IsCommand (texts_of words.now) c) }
 
-    // Status 0 comes only where nothing failed, with the two lines of what was admitted written whole.
+    // Status 0 comes only where nothing failed, with a text of the command written whole: the two lines of what was admitted, or the line of
+    // how many texts were.
     ensures zero { result.code ≡ 0 → (C.faults cabinet.new ≡ C.faults cabinet.old) × (K.faults out.new ≡ K.faults out.old)
-        × ((a : Admission) × Adds (K.written out.old) (admitted_text a) (K.written out.new)) }
+        × ((c : Command) × IsCommand (texts_of words.now) c × ((text : List ℕ) × IsSuccess c text × Adds (K.written out.old) text (K.written out.new))) }
 {
     perform(alloc, words, cabinet, out)
 }

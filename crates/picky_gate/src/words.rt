@@ -1,12 +1,12 @@
 // The words of the command line.
 ghost use Rattle.std.specs.Prelude.{◌≡◌, ◌↔◌, ℕ, Option, option_map, IsTrue, MatchOption, codes};
 ghost use Rattle.std.specs.Str.{all_ascii_digits};
-ghost use Rattle.picky_gate.specs.Command.{Text, Admit, IsCommand, AsksAdmit, ArePairs, IsFlag, IsNumber, IsMoment, IsLeeway, IsChecks, IsItself, StandsOnce, StandsAtMostOnce, texts_of, values_under};
-ghost use Rattle.picky_gate.specs.Asked.{AreValues, admit_of, seconds_of};
+ghost use Rattle.picky_gate.specs.Command.{Text, Admit, AsksAdmit, ArePairs, IsFlag, IsNumber, IsMoment, IsLeeway, IsChecks, IsItself, StandsOnce, StandsAtMostOnce, Generate, AsksGenerate, AreTwo, Command, Asks, IsCommand, texts_of, values_under};
+ghost use Rattle.picky_gate.specs.Asked.{AreValues, admit_of, generate_of, command_of, seconds_of};
 ghost use Rattle.picky_gate.specs.declared.asked.Checks.{Checks as Asked};
 
 use crate::AdmitWords;
-use crate::asked::{Checks, Moment};
+use crate::asked::{Checks, CommandWords, GenerateWords, Moment};
 
 /// How many values stand under a flag, and the value where there is one.
 #[derive(Clone, Copy)]
@@ -212,14 +212,64 @@ fn read_admit(words: &[String]) -> Option<AdmitWords<'_>>
     })
 }
 
-/// The command that the words are; `None` exactly where they are none.
-pub fn read_words(words: &[String]) -> Option<AdmitWords<'_>>
+// The texts of a seed and of a count, where the words are their two flags, each with its value.
+fn two_values(words: &[String]) -> Option<(&str, &str)>
     ensures { MatchOption result
-        ((a : Admit) → IsCommand (texts_of words.now) a → ⊥)
-        (λ w. IsCommand (texts_of words.now) (admit_of w)) }
+        ((seed : Text) → (count : Text) → AreTwo (texts_of words.now) seed count → ⊥)
+        (λ values. AreTwo (texts_of words.now) values.0.now values.1.now) }
+{
+    let [first, one, second, other] = words else {
+        return None;
+    };
+    match (first.as_str(), second.as_str()) {
+        ("--seed", "--count") => Some((one.as_str(), other.as_str())),
+        ("--count", "--seed") => Some((other.as_str(), one.as_str())),
+        _ => None,
+    }
+}
+
+/// What `generate` is asked by the words after it, if they are of its form.
+fn read_generate(words: &[String]) -> Option<GenerateWords>
+    ensures { MatchOption result
+        ((g : Generate) → AsksGenerate (texts_of words.now) g → ⊥)
+        (λ w. AsksGenerate (texts_of words.now) (generate_of w)) }
+{
+    let Some((seed, count)) = two_values(words) else {
+        return None;
+    };
+    let seed = read_number(seed, 20, u64::MAX)?;
+    let count = read_number(count, 5, 10_000)?;
+    Some(GenerateWords { seed, count })
+}
+
+// What the command of this name is asked by the words after it, if they are of its form.
+#[tactic(auto, using(crate::proofs::Values::no_admit, crate::proofs::Values::no_generate))]
+fn read_named<'a>(name: &str, words: &'a [String]) -> Option<CommandWords<'a>>
+    ensures { MatchOption result
+        ((c : Command) → Asks name.now (texts_of words.now) c → ⊥)
+        (λ w. Asks name.now (texts_of words.now) (command_of w)) }
+{
+    match name {
+        "admit" => match read_admit(words) {
+            Some(words) => Some(CommandWords::Admit(words)),
+            None => None,
+        },
+        "generate" => match read_generate(words) {
+            Some(words) => Some(CommandWords::Generate(words)),
+            None => None,
+        },
+        _ => None,
+    }
+}
+
+/// The command that the words are; `None` exactly where they are none.
+pub fn read_words(words: &[String]) -> Option<CommandWords<'_>>
+    ensures { MatchOption result
+        ((c : Command) → IsCommand (texts_of words.now) c → ⊥)
+        (λ w. IsCommand (texts_of words.now) (command_of w)) }
 {
     match words {
-        [first, rest @ ..] if first.as_str() == "admit" => read_admit(rest),
-        _ => None,
+        [first, rest @ ..] => read_named(first.as_str(), rest),
+        [] => None,
     }
 }

@@ -1,3 +1,7 @@
+pub mod Building
+pub mod Entries
+pub mod Numbered
+pub mod Printed
 pub mod Setting
 pub mod Splits
 pub mod Values

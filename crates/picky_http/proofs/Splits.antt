@@ -7,10 +7,10 @@ use Rattle.std.proofs.lemmas.List.Elements.{All-from_recursion, recursion_from_A
 use Rattle.std.proofs.lemmas.Bool.{cases_Bool, eqb-false}
 use Rattle.picky_contract.specs.Text.{Lacks}
 
-lacks_nil : (c : ℕ) → Lacks c []
+pub lacks_nil : (c : ℕ) → Lacks c []
 lacks_nil c = All-from_recursion (λ (b : ℕ). b ≢ c) [] tt
 
-lacks_cons : (c b : ℕ) (bs : List ℕ) → b ≢ c → Lacks c bs → Lacks c (b ∷ bs)
+pub lacks_cons : (c b : ℕ) (bs : List ℕ) → b ≢ c → Lacks c bs → Lacks c (b ∷ bs)
 lacks_cons c b bs ne h = All-from_recursion (λ (x : ℕ). x ≢ c) (b ∷ bs) (ne, recursion_from_All (λ (x : ℕ). x ≢ c) bs h)
 
 onto_lacks : (c b : ℕ) (ps : List (List ℕ)) → b ≢ c → AllByRecursion (Lacks c) ps → AllByRecursion (Lacks c) (onto_first b ps)

@@ -1,5 +1,5 @@
 -- What the errors of HTTP signatures say, want of memory aside (own).
-use Rattle.std.specs.Prelude.{ℕ, List, Option, Some, None}
+use Rattle.std.specs.Prelude.{ℕ, List, Option, Some, None, string_bytes}
 use Rattle.picky_key_der.specs.declared.error.SignatureError.{SignatureError}
 use Rattle.picky_key_der.specs.declared.error.SignatureError.TheVariants as of_signature
 use Rattle.picky_key.specs.declared.algorithm.SignatureAlgorithm.{SignatureAlgorithm}
@@ -10,7 +10,7 @@ use Rattle.picky_http_request.specs.Answers.{RequestFault, request_fault}
 use Rattle.picky_http.specs.declared.error.HttpSignatureError.{HttpSignatureError}
 use Rattle.picky_http.specs.declared.error.HttpSignatureError.TheVariants as of_http
 
--- Why an HTTP signature isn't read or accepted; dates in seconds, the signature's and then the moment. No table names
+-- Why an HTTP signature isn't read, made or accepted; dates in seconds, the signature's and then the moment. No table names
 -- `inner_memory`, the want of memory of an inner error, so none is carried: it is the outer error's own.
 pub data HttpFault : Type 0 where
   not_base64 : HttpFault
@@ -18,7 +18,10 @@ pub data HttpFault : Type 0 where
   expired : ℕ → ℕ → HttpFault
   signature : SignatureFault → HttpFault
   no_line : RequestFault → HttpFault
+  bad_line : List ℕ → HttpFault
   missing_argument : List ℕ → HttpFault
+  covers_nothing : HttpFault
+  covers_beside : HttpFault
   missing_parameter : List ℕ → HttpFault
   invalid_parameter : List ℕ → HttpFault
   incompatible : SignatureAlgorithm → HttpFault
@@ -35,7 +38,10 @@ http_fault (of_http.NotYetValid created now) = Some (not_yet_valid created now)
 http_fault (of_http.Expired not_after now) = Some (expired not_after now)
 http_fault (of_http.Signature source) = Some (signature (signature_fault source))
 http_fault (of_http.SigningStringGeneration source) = Some (of_line (request_fault source))
+http_fault (of_http.InvalidSigningString line) = Some (bad_line (string_bytes line))
 http_fault (of_http.MissingBuilderArgument arg) = Some (missing_argument arg.now)
+http_fault of_http.BuilderEmptyHeaders = Some covers_nothing
+http_fault of_http.BuilderHeadersProvidedWithPreGenerated = Some covers_beside
 http_fault (of_http.MissingRequiredParameter parameter) = Some (missing_parameter parameter.now)
 http_fault (of_http.InvalidParameter parameter) = Some (invalid_parameter parameter.now)
 http_fault (of_http.IncompatibleAlgorithm value) = Some (incompatible value)

@@ -1,7 +1,12 @@
 pub mod Algorithms
+pub mod Building
+pub mod Content
 pub mod Faults
+pub mod Given
 pub mod Lines
+pub mod Numbered
 pub mod Parts
+pub mod Printing
 pub mod Reading
 pub mod Refusals
 pub mod Signing

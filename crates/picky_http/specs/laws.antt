@@ -1,3 +1,10 @@
+pub mod Building
+pub mod Given
+pub mod Bare
+pub mod Items
 pub mod Lines
+pub mod Printing
 pub mod Readings
+pub mod Spelled
 pub mod Verifying
+pub mod Told

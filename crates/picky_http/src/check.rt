@@ -120,7 +120,7 @@ fn message<'a, Q: HttpRequest>(
 }
 
 // The form of a signature.
-fn form_of(legacy: bool) -> Form
+pub(crate) fn form_of(legacy: bool) -> Form
     ensures { result ≡ form_of_flag legacy }
 {
     if legacy { Form::Url } else { Form::Standard }

@@ -6,7 +6,7 @@ use picky_key::{ProviderFault, SignatureAlgorithm, SignatureError};
 use std::alloc::{AllocError, AllocFailed};
 use thiserror::Error;
 
-/// Why an HTTP signature isn't read or accepted. Moments are in seconds since 1970-01-01T00:00:00Z.
+/// Why an HTTP signature isn't read, made or accepted. Moments are in seconds since 1970-01-01T00:00:00Z.
 #[derive(Debug, Drop, Error)]
 pub enum HttpSignatureError {
     /// The signature isn't strict base64 of its form.
@@ -24,9 +24,18 @@ pub enum HttpSignatureError {
     /// The request has no answer for a line of the signing string.
     #[error("couldn't generate signing string: {source}")]
     SigningStringGeneration { source: HttpRequestError },
+    /// A line of a signing string that was given has no colon, or covers `(created)` or `(expires)` without a number.
+    #[error("signing string invalid in line {line}")]
+    InvalidSigningString { line: String },
     /// An argument that is needed wasn't set.
     #[error("required builder argument missing: {arg}")]
     MissingBuilderArgument { arg: &'static str },
+    /// The builder covers no part of the request.
+    #[error("builder covers no headers")]
+    BuilderEmptyHeaders,
+    /// The builder covers parts, beside a signing string that was given.
+    #[error("builder covers headers beside a signing string that was given")]
+    BuilderHeadersProvidedWithPreGenerated,
     /// The header text has no such parameter, or a line covers one that isn't there.
     #[error("required parameter is missing: {parameter}")]
     MissingRequiredParameter { parameter: &'static str },

@@ -56,7 +56,7 @@ reading_same text x y a b =
 
 -- ---- the table says the same as the reading
 
-always_exact : {X F : Type 0} (P : X → Type 0) → Exact (always {F = F} P)
+pub always_exact : {X F : Type 0} (P : X → Type 0) → Exact (always {F = F} P)
 always_exact P = record { holds = λ x h. h.0; one = λ x y h k. h.1 y k; apart = λ f y r k. r; only = λ f g r k. absurd r }
 
 pub shown_exact : (text : List ℕ) → Exact (shown_table text)

@@ -16,7 +16,7 @@ use Rattle.picky_http.specs.Parts.{covered}
 use Rattle.picky_http.specs.Reading.{Reading}
 use Rattle.picky_http.specs.Signing.{Part, Line, signing_string}
 use Rattle.picky_http.specs.Steps.{given}
-use Rattle.picky_http.specs.Verifying.{Source, given_text, answers_of, AlgorithmFits, IsInForce, HasBegun, IsMessage, algorithm_table, expires_table, created_table, message_table, form_of, signed_table, rows_table, checked_table, Using, Origin, asked_of, source_by, verify_table}
+use Rattle.picky_http.specs.Verifying.{Source, given_text, answers_of, AlgorithmFits, IsInForce, HasBegun, IsMessage, algorithm_table, expires_table, created_table, message_table, form_of, signed_table, rows_table, checked_table, Using, Setup, Origin, asked_of, source_by, verify_table}
 
 -- ---- the signing string
 
@@ -31,7 +31,7 @@ lines_exact asked (part ∷ parts) =
     then_exact _ _ (lines_exact asked parts) (λ lines.
     done_exact ((part, answer) ∷ lines)))
 
-text_exact : (asked : Asked) (parts : List Part) → Exact (text_table asked parts)
+pub text_exact : (asked : Asked) (parts : List Part) → Exact (text_table asked parts)
 unfolding text_table
 text_exact asked parts = then_exact _ _ (lines_exact asked parts) (λ lines. done_exact (signing_string lines))
 
@@ -47,12 +47,12 @@ given_says : (said : Said) (text : List ℕ) → (given said).holds text → sai
 given_says (Ok said) text h = ap Ok (sym h)
 given_says (Err fault) text h = absurd h
 
-to_lines : (asked : Asked) (parts : List Part) (lines : List Line) → (lines_table asked parts).holds lines → AreLines asked parts lines
+pub to_lines : (asked : Asked) (parts : List Part) (lines : List Line) → (lines_table asked parts).holds lines → AreLines asked parts lines
 to_lines asked [] lines h = subst (λ (ls : List Line). AreLines asked [] ls) (sym h) tt
 to_lines asked (part ∷ parts) lines (text, said, (rest, held, is)) =
     subst (λ (ls : List Line). AreLines asked (part ∷ parts) ls) (sym is) ((refl, given_says (part_answer asked part) text said), to_lines asked parts rest held)
 
-from_lines : (asked : Asked) (parts : List Part) (lines : List Line) → AreLines asked parts lines → (lines_table asked parts).holds lines
+pub from_lines : (asked : Asked) (parts : List Part) (lines : List Line) → AreLines asked parts lines → (lines_table asked parts).holds lines
 from_lines asked [] [] h = refl
 from_lines asked [] (l ∷ ls) h = absurd h
 from_lines asked (p ∷ ps) [] h = absurd h
@@ -150,6 +150,15 @@ set_leads {X = X} {Y = Y} {F = F} x f next = record {
 
 both : {X F : Type 0} (s t u : Table X F) → Leads s t → Leads t u → Leads s u
 both s t u a b = record { gives = λ x h. b.gives x (a.gives x h); refuses = λ f h. b.refuses f (a.refuses f h) }
+
+-- what a verifier answers is one thing
+pub verify_exact : {Q : Type 0} (signs : Relation) (answer : Q → List ℕ → Answer) (method target : Q → Answer) (s : Setup Q) → Exact (verify_table signs answer method target s)
+unfolding verify_table
+verify_exact {Q = Q} signs answer method target s =
+    then_exact _ _ (the_exact (λ (m : Using). s.method ≡ Some m) (missing_argument (codes "signature_method"))) (λ m.
+    then_exact _ _ (algorithm_exact m.key m.algorithm s.reading.algorithm) (λ _.
+    then_exact _ _ (the_exact (λ (w : Origin Q). s.way ≡ Some w) (missing_argument (codes "signing_string_generation"))) (λ w.
+    rows_exact signs m.key m.algorithm (source_by answer method target w) s.now s.leeway s.reading)))
 
 -- a verifier with a key, an algorithm and a request answers the rows from the algorithm on
 pub verified_is_checked : {Q : Type 0} (signs : Relation) (answer : Q → List ℕ → Answer) (method target : Q → Answer) (r : Reading) (now : Option ℕ) (leeway : ℕ) (m : Using) (q : Q)
