@@ -1,3 +1,4 @@
+-- The laws of header texts: one reading each, and what is built, printed and told reads back.
 pub mod Building
 pub mod Given
 pub mod Bare

@@ -24,6 +24,7 @@ impl HttpSigAlgorithm {
         }
     }
 
+    /// Whether it is one of the algorithms that are known by their names.
     pub fn is_known(&self) -> bool
         ensures { result ≡ is_known_one (algorithm_view self.now) }
     {
@@ -40,6 +41,7 @@ impl HttpSigAlgorithm {
         }
     }
 
+    /// Whether it is any other text.
     pub fn is_custom(&self) -> bool
         ensures { IsTrue result ↔ IsSome (custom_text (algorithm_view self.now)) }
     {

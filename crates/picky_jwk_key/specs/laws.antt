@@ -1,2 +1,3 @@
+-- The laws of the conversion of keys: both ways, back to the same key.
 pub mod Public
 pub mod Back

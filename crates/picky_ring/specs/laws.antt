@@ -1,2 +1,3 @@
+-- The laws of rings.
 pub mod Defaults
 pub mod Rings
