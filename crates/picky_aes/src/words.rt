@@ -1,4 +1,4 @@
-// A state as four words, one for each column, the byte of row 0 the highest of its word.
+// A state as four words, one for each column, the byte of the first row the highest of its word.
 ghost use Rattle.std.specs.Prelude.{◌≡◌, ◌%◌, ◌^◌, [], ◌∷◌};
 ghost use Rattle.std.specs.Int.{to_be_bytes, w32};
 ghost use Rattle.picky_aes.specs.Words.{bytes_of};
