@@ -1,5 +1,6 @@
 pub mod Cutting
 pub mod Rows
+pub mod Turns
 pub mod Exits
 pub mod Documents
 pub mod Words

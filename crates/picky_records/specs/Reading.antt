@@ -131,6 +131,13 @@ form_table n _ = refused (BadLine n)
 
 -- ---- the rows of a line, after those before it
 
+-- what is asked of a line in form, where these stand before it
+unfoldable pub standing : List Line → ℕ → Line → Table Line RecordFault
+standing before n line = do
+  family ← need (IsTrue (in_family line)) (Family n)
+  free ← need (conflicts before line ≡ false) (Conflict n)
+  done line
+
 unfoldable pub row : List Line → List ℕ → Table Line RecordFault
 row before text = do
   line ← form_table (length before + 1) (fields_in text)

@@ -3,7 +3,7 @@ ghost use Rattle.std.specs.Prelude.{◌≡◌, IfOk, map};
 ghost use Rattle.picky_contract.specs.Refusals.{Meets};
 ghost use Rattle.picky_records.specs.Lines.{AreSound};
 ghost use Rattle.picky_records.specs.Cutting.{fields_in};
-ghost use Rattle.picky_records.specs.Reading.{fault, sig_table, pair_table, unwrap_table, agree_table, form_table, row, records_table};
+ghost use Rattle.picky_records.specs.Reading.{fault, sig_table, pair_table, unwrap_table, agree_table, form_table, standing, row, records_table};
 
 use crate::fields::{bytes_of, is_signature_for, private_of, public_of};
 use crate::names::{algorithm_of, scheme_of};
@@ -32,22 +32,43 @@ pub(crate) fn lines_of(alloc: Global, text: &str) -> Result<Vec<Line>, RecordFau
 }
 
 // The line that a text records after the lines before it.
-#[tactic(auto, unfolding(crate::specs::Reading::row))]
 fn line_of(alloc: Global, before: &Seen, text: &str) -> Result<Line, RecordFault>
     requires { AreSound before.now }
     ensures { Meets (λ l. l) fault result (row before.now text.now) }
 {
     let number = before.len() as u64 + 1;
-    let fields = fields_of(alloc, text)?;
-    let line = form_of(alloc, number, &fields)?;
+    let line = formed(alloc, number, text)?;
+    match stands(alloc, before, number, &line) {
+        Ok(()) => Ok(line),
+        Err(fault) => {
+            drop(line);
+            Err(fault)
+        }
+    }
+}
+
+// Whether a line in form stands after the lines before it: it is in its family, and nothing contradicts it.
+#[tactic(auto, unfolding(crate::specs::Reading::standing))]
+fn stands(alloc: Global, before: &Seen, number: u64, line: &Line) -> Result<(), RecordFault>
+    requires { AreSound before.now }
+    ensures { Meets (λ _. line.now) fault result (standing before.now number line.now) }
+{
     if !line.in_family() {
         return Err(RecordFault::Family { line: number });
     }
-    let contradicts = before.conflicts(alloc, &line)?;
+    let contradicts = before.conflicts(alloc, line)?;
     if contradicts {
         return Err(RecordFault::Conflict { line: number });
     }
-    Ok(line)
+    Ok(())
+}
+
+// The line whose form a text has.
+fn formed(alloc: Global, number: u64, text: &str) -> Result<Line, RecordFault>
+    ensures { Meets (λ l. l) fault result (form_table number (fields_in text.now)) }
+{
+    let fields = fields_of(alloc, text)?;
+    form_of(alloc, number, &fields)
 }
 
 // The fields of a line, parted by one space.

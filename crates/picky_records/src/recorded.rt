@@ -1,5 +1,5 @@
 // The provider that answers from recorded lines.
-ghost use Rattle.std.specs.Prelude.{◌≡◌, IsTrue, IfOk, option_map, option_copied};
+ghost use Rattle.std.specs.Prelude.{◌≡◌, ◌↔◌, IsTrue, IsOk, IfOk, option_map, option_copied};
 ghost use Rattle.picky_records.specs.Lines.{are_sound};
 
 use crate::ask::{
@@ -67,6 +67,7 @@ impl KeyProvider for Recorded {
 
     ghost ephemeral_curve = { λ p. ephemeral_curve_lem p.lines.items p.sound };
 
+    /// Takes no memory.
     fn verify(
         &self,
         _alloc: Global,
@@ -74,7 +75,10 @@ impl KeyProvider for Recorded {
         algorithm: SignatureAlgorithm,
         message: &[u8],
         signature: &[u8],
-    ) -> Result<bool, ProviderFault> {
+    ) -> Result<bool, ProviderFault>
+        ensures answers { IfOk result (λ holds. IsTrue holds ↔ signs_by self.now.lines.items key.now algorithm message.now signature.now) }
+        ensures no_memory { IsOk result }
+    {
         Ok(is_signed(&self.lines, key, algorithm, message, signature))
     }
 

@@ -79,6 +79,14 @@ fn learned(
     put(places, swapped, place)
 }
 
+// These lines and one more.
+fn pushed(mut lines: Vec<Line>, line: Line) -> Result<Vec<Line>, AllocError>
+    ensures { IfOk result (λ v. v.items ≡ lines.items ++ line ∷ []) }
+{
+    lines.push(line)?;
+    Ok(lines)
+}
+
 impl Seen {
     // No lines.
     pub(crate) fn new(alloc: Global) -> Seen
@@ -135,9 +143,10 @@ impl Seen {
     pub(crate) fn with(self, alloc: Global, line: Line) -> Result<Seen, AllocError>
         ensures { IfOk result (λ s. s ≡ self ++ line ∷ []) }
     {
-        let Seen { mut lines, places } = self;
-        let places = learned(alloc, places, lines.len(), &line)?;
-        lines.push(line)?;
+        let Seen { lines, places } = self;
+        let places = learned(alloc, places, lines.len(), &line);
+        let lines = pushed(lines, line)?;
+        let places = places?;
         Ok(Seen { lines, places })
     }
 }
