@@ -6,10 +6,10 @@ use Rattle.picky_gate.specs.declared.documents.Document.TheVariants.{Keys, Recor
 use Rattle.picky_gate.specs.declared.program.Unfetched.{Unfetched}
 use Rattle.picky_gate.specs.declared.program.Unfetched.TheVariants.{Failed, OutOfMemory}
 use Rattle.picky_gate.specs.Command.{Text, Admit}
-use Rattle.picky_gate.specs.Outside.{Adds}
+use Rattle.picky_outside.specs.Outside.{Adds}
 use Rattle.picky_gate.specs.Reply.{OneAsked, OneAskedIf, AllAsked}
 use Rattle.picky_gate.specs.Run.{given, paths_of, paths_to}
-use Rattle.picky_gate.proofs.Pieces.{adds_nothing, adds_more}
+use Rattle.picky_outside.specs.laws.Adding.{adds_nothing, adds_more}
 
 -- three paths are all
 pub all_paths : (c : Admit) → take 3 (paths_of c) ≡ paths_of c

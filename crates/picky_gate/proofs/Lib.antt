@@ -1,4 +1,3 @@
-pub mod Pieces
 pub mod Fetching
 pub mod Values
 pub mod Moments

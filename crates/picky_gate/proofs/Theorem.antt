@@ -14,7 +14,7 @@ use Rattle.picky_gate.specs.Generated.{Counts}
 use Rattle.picky_gate.specs.Headline.{Tells, TellsIf, IsTaken, Says}
 use Rattle.picky_gate.specs.Lines.{admitted_text, generated_text, why_status, why_text}
 use Rattle.picky_gate.specs.Outcome.{Outcome}
-use Rattle.picky_gate.specs.Outside.{IsFetched, Adds}
+use Rattle.picky_outside.specs.Outside.{IsFetched, Adds}
 use Rattle.picky_gate.specs.Reply.{IsFetchedIf, Reply, usage, unread, admitted, failed, generated, ComesTo, IsAnswer, IsReply, reply_text, reply_status, Delivers, AskedSome, Replies, IsSuccess}
 use Rattle.picky_gate.specs.Run.{Run, FetchFailed, WriteFailed, Asked, Wrote, paths_of, paths_to}
 use Rattle.picky_gate.proofs.Fetching.{all_paths}

@@ -1,7 +1,8 @@
 -- The values that were found under a flag.
 use Rattle.std.proofs.Common.{◌≡◌, ◌<◌, ◌≤◌, ◌++◌, List, [], ◌∷◌, length, String, Global, string_bytes, get_or, codes, take, drop, ◌-◌, Option, MatchOption, refl, ap, arith, subst, sym, ◌∙◌}
 use Rattle.std.proofs.lemmas.List.{take_all}
-use Rattle.picky_gate.specs.Command.{Text, values_under, texts_of, Admit, AsksAdmit, Generate, AsksGenerate, Command, admit, generate, Asks, IsCommand}
+use Rattle.picky_gate.specs.Command.{Text, values_under, Admit, AsksAdmit, Generate, AsksGenerate, Command, admit, generate, Asks, IsCommand}
+use Rattle.picky_outside.specs.Outside.{texts_of}
 use Rattle.picky_gate.specs.Asked.{AreValues, command_of}
 use Rattle.picky_gate.specs.declared.asked.CommandWords.{CommandWords}
 use Rattle.picky_gate.specs.declared.words.Values.{Values}

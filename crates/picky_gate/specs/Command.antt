@@ -1,17 +1,13 @@
 -- The words of the command line and the command that they are (own).
-use Rattle.std.specs.Prelude.{◌≡◌, ◌<◌, ◌≤◌, ℕ, ◌⊎◌, List, [], ◌∷◌, Option, Some, None, String, string_bytes, map, length, codes, if◌then◌else◌, true}
+use Rattle.std.specs.Prelude.{◌≡◌, ◌<◌, ◌≤◌, ℕ, ◌⊎◌, List, [], ◌∷◌, Option, Some, None, length, codes, if◌then◌else◌, true}
 use Rattle.std.specs.Str.{bytes_eq, all_ascii_digits}
 use Rattle.std.specs.Str.Parse.{digits_value}
-use Rattle.std.specs.declared.alloc.Global.{Global}
 use Rattle.picky_gate.specs.declared.asked.Checks.{Checks}
 use Rattle.picky_gate.specs.declared.asked.Checks.TheVariants.{Strict, Lenient, NoChecks}
 
 -- a text, as its UTF-8 bytes
 abbrev pub Text : Type 0
 Text = List ℕ
-
-abbrev pub texts_of : List (String Global) → List Text
-texts_of words = map string_bytes words
 
 -- the values that stand under a flag, where the words are flags and values in turn
 abbrev pub values_under : Text → List Text → List Text

@@ -1,5 +1,3 @@
-pub mod Outside
-pub mod Shelf
 pub mod Command
 pub mod Asked
 pub mod Scheme

@@ -12,7 +12,7 @@ use Rattle.picky_gate.specs.Documents.{limit, decision}
 use Rattle.picky_gate.specs.Faults.{Why}
 use Rattle.picky_gate.specs.Generated.{Counts}
 use Rattle.picky_gate.specs.Lines.{admitted_text, generated_text, document_text, why_status, why_text}
-use Rattle.picky_gate.specs.Outside.{IsFetched, Adds}
+use Rattle.picky_outside.specs.Outside.{IsFetched, Adds}
 use Rattle.picky_gate.specs.Run.{Contents, Run, FetchFailed, Asked, paths_of, paths_to}
 
 -- a document that was asked for where there is a path

@@ -4,7 +4,7 @@ use Rattle.picky_contract.specs.Causes.{Rose}
 use Rattle.picky_gate.specs.declared.documents.Document.{Document}
 use Rattle.picky_gate.specs.declared.documents.Document.TheVariants.{Keys, Records, Request}
 use Rattle.picky_gate.specs.Command.{Text, Admit}
-use Rattle.picky_gate.specs.Outside.{Adds}
+use Rattle.picky_outside.specs.Outside.{Adds}
 
 -- what something was before the run and is after it
 pub record Change (X : Type 0) : Type 0 where

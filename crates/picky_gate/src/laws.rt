@@ -15,6 +15,7 @@ ghost use Rattle.picky_http.specs.Verifying.{asked_of, IsInForce, HasBegun};
 ghost use Rattle.picky_gate.specs.declared.policy.Policy.{Policy};
 ghost use Rattle.picky_ring.specs.declared.ring.RingEntry.{RingEntry};
 ghost use Rattle.picky_ring.specs.TextMap.{TextMap};
+ghost use Rattle.picky_gate.specs.Generated.{Counts};
 ghost use Rattle.picky_gate.specs.Admissible.{Admission, token, request, Admissible, NamedKey, IsKeyUnder};
 
 use picky_http_request::HttpRequest;
@@ -36,6 +37,11 @@ pub fn one_is_admissible<R: SignatureRelation>(_relation: &R)
     ensures { (ring : TextMap RingEntry) → (policy : Policy) → (asked : Request) → (text : List ℕ) → (a b : Admission)
         → Admissible (R.relation _relation.now) ring policy asked text a
         → Admissible (R.relation _relation.now) ring policy asked text b → b ≡ a }
+{}
+
+/// Of the first texts of a seed so many are admissible, and no other number.
+pub fn one_count_is_right()
+    ensures { (seed n a b : ℕ) → Counts seed n a → Counts seed n b → b ≡ a }
 {}
 
 /// A token whose signature holds under a key of the ring, which its `kid` names, is admissible where its payload is claims whose dates

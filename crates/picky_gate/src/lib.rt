@@ -6,10 +6,7 @@
 
 mod admission;
 mod asked;
-mod cabinet;
 mod documents;
-mod files;
-mod fixed;
 mod generated;
 mod header;
 pub mod laws;
@@ -17,18 +14,15 @@ mod lines;
 mod policy;
 mod program;
 mod scheme;
-mod sink;
-mod stdio;
 mod token;
 mod words;
 
 pub use admission::{Admitted, Refusal, admit};
 use asked::AdmitWords;
-pub use cabinet::{Cabinet, FetchFault, MemoryCabinet};
-pub use files::FileCabinet;
-pub use fixed::FixedCabinet;
+pub use picky_outside::{
+    Cabinet, Failed, FetchFault, FileCabinet, FixedCabinet, MemoryCabinet, MemorySink, Sink,
+    StdSink,
+};
 pub use picky_ring::{KeyName, KeysFault, Ring, RingEntry, ring_from_jwks};
 pub use policy::Policy;
 pub use program::{Status, run};
-pub use sink::{Failed, MemorySink, Sink};
-pub use stdio::StdSink;

@@ -2,20 +2,20 @@
 ghost use Rattle.std.specs.Prelude.{◌≡◌, ◌≢◌, ◌⊎◌, ◌≤◌, ◌<◌, ℕ, List, IfOk, length, option_map, string_bytes};
 ghost use Rattle.picky_contract.specs.Causes.{Rose};
 ghost use Rattle.picky_gate.specs.Asked.{admit_of};
-ghost use Rattle.picky_gate.specs.Command.{texts_of, Command, IsCommand};
+ghost use Rattle.picky_gate.specs.Command.{Command, IsCommand};
 ghost use Rattle.picky_gate.specs.Documents.{limit};
 ghost use Rattle.picky_gate.specs.Outcome.{Outcome};
-ghost use Rattle.picky_gate.specs.Outside.{IsFetched, Adds};
+ghost use Rattle.picky_outside.specs.Outside.{IsFetched, Adds, texts_of};
 ghost use Rattle.picky_gate.specs.Reply.{IsFetchedIf, AreFetched, UnfetchedCause, OneAsked, OneAskedIf, AllAsked, Delivers, Replies, Said, IsSuccess, reply_text, unread};
 
 use crate::asked::CommandWords;
 use crate::documents::{Document, Documents, LIMIT, decide};
 use crate::generated::generated_line;
 use crate::lines::{admitted_lines, fault_line};
-use crate::sink::write_all;
 use crate::words::read_words;
 use crate::{AdmitWords, Cabinet, FetchFault, Sink};
 use picky_contract::Bytes;
+use picky_outside::write_all;
 use std::alloc::{AllocError, Global};
 
 /// The status of the program: 0 admitted or generated, 1 refused, 2 the words are no command, 3 a document can't be
@@ -56,6 +56,7 @@ fn fetch_request<C: Cabinet>(
     path: Option<&str>,
 ) -> Result<Option<Bytes>, Unfetched>
     ensures bytes { IfOk result (λ bytes. IsFetchedIf (C.content cabinet.old) (option_map (λ p. p.now) path.entry) bytes) }
+    ensures same { (p : List ℕ) → C.content cabinet.new p ≡ C.content cabinet.old p }
     ensures asks { OneAskedIf (C.asked cabinet.old) (option_map (λ p. p.now) path.entry) (C.asked cabinet.new) result }
     ensures cause { UnfetchedCause (C.faults cabinet.old) (C.faults cabinet.new) result }
 {
@@ -75,6 +76,7 @@ fn fetch_documents<C: Cabinet>(
     words: AdmitWords<'_>,
 ) -> Result<Documents, Unfetched>
     ensures bytes { IfOk result (λ docs. AreFetched (C.content cabinet.old) (admit_of words.entry) docs) }
+    ensures same { (p : List ℕ) → C.content cabinet.new p ≡ C.content cabinet.old p }
     ensures asks { AllAsked (C.asked cabinet.old) (admit_of words.entry) (C.asked cabinet.new) result }
     ensures cause { UnfetchedCause (C.faults cabinet.old) (C.faults cabinet.new) result }
 {
@@ -161,6 +163,7 @@ fn perform<C: Cabinet, K: Sink>(
     ensures six { result.code ≡ 6 → Rose (K.faults out.old) (K.faults out.new) }
     ensures three { result.code ≡ 3 → Rose (C.faults cabinet.old) (C.faults cabinet.new) }
     ensures later { (C.faults cabinet.old ≤ C.faults cabinet.new) × (K.faults out.old ≤ K.faults out.new) }
+    ensures same { (p : List ℕ) → C.content cabinet.new p ≡ C.content cabinet.old p }
 {
     let command = match read_words(words) {
         Some(CommandWords::Admit(command)) => command,
@@ -215,6 +218,9 @@ pub fn run<C: Cabinet, K: Sink>(
     ensures six { result.code ≡ 6 → Rose (K.faults out.old) (K.faults out.new) }
     ensures three { result.code ≡ 3 → Rose (C.faults cabinet.old) (C.faults cabinet.new) }
     ensures later { (C.faults cabinet.old ≤ C.faults cabinet.new) × (K.faults out.old ≤ K.faults out.new) }
+
+    // What stands under each path is as before.
+    ensures same { (p : List ℕ) → C.content cabinet.new p ≡ C.content cabinet.old p }
 
     // Words that are no command: 2, or 6 where a write failed; and 2 comes only of such words.
     ensures no_command { ((c : Command) → ¬ (IsCommand (texts_of words.now) c)) → (result.code ≡ 2) ⊎ (result.code ≡ 6) }

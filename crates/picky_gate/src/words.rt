@@ -1,7 +1,8 @@
 // The words of the command line.
 ghost use Rattle.std.specs.Prelude.{◌≡◌, ◌↔◌, ℕ, Option, option_map, IsTrue, MatchOption, codes};
 ghost use Rattle.std.specs.Str.{all_ascii_digits};
-ghost use Rattle.picky_gate.specs.Command.{Text, Admit, AsksAdmit, ArePairs, IsFlag, IsNumber, IsMoment, IsLeeway, IsChecks, IsItself, StandsOnce, StandsAtMostOnce, Generate, AsksGenerate, AreTwo, Command, Asks, IsCommand, texts_of, values_under};
+ghost use Rattle.picky_gate.specs.Command.{Text, Admit, AsksAdmit, ArePairs, IsFlag, IsNumber, IsMoment, IsLeeway, IsChecks, IsItself, StandsOnce, StandsAtMostOnce, Generate, AsksGenerate, AreTwo, Command, Asks, IsCommand, values_under};
+ghost use Rattle.picky_outside.specs.Outside.{texts_of};
 ghost use Rattle.picky_gate.specs.Asked.{AreValues, admit_of, generate_of, command_of, seconds_of};
 ghost use Rattle.picky_gate.specs.declared.asked.Checks.{Checks as Asked};
 

@@ -3,7 +3,8 @@ use Rattle.picky_gate.specs.declared.documents.Document.{Document}
 use Rattle.picky_gate.specs.declared.documents.Documents.{Documents}
 use Rattle.picky_gate.specs.declared.program.Unfetched.{Unfetched}
 use Rattle.picky_gate.specs.Asked.{admit_of, generate_of}
-use Rattle.picky_gate.specs.Command.{IsAdmit, IsGenerate, admit, texts_of}
+use Rattle.picky_gate.specs.Command.{IsAdmit, IsGenerate, admit}
+use Rattle.picky_outside.specs.Outside.{texts_of}
 use Rattle.picky_gate.specs.Reply.{generated, unread, reply_text}
 use Rattle.picky_gate.proofs.Fetching.{all_paths}
 use Rattle.picky_gate.proofs.Delivery.{same_text, is_reply}

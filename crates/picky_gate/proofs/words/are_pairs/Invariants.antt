@@ -1,5 +1,6 @@
 use Rattle.std.proofs.Common.{◌↔◌, length}
-use Rattle.picky_gate.specs.Command.{ArePairs, texts_of}
+use Rattle.picky_gate.specs.Command.{ArePairs}
+use Rattle.picky_outside.specs.Outside.{texts_of}
 use Rattle.picky_gate.proofs.words.are_pairs.Given as goal
 
 abbrev pub invariant-loop-rest : goal.invariant-loop-rest

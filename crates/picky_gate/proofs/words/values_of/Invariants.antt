@@ -1,5 +1,6 @@
 use Rattle.std.proofs.Common.{◌≡◌, ◌≤◌, ◌++◌, length}
-use Rattle.picky_gate.specs.Command.{values_under, texts_of}
+use Rattle.picky_gate.specs.Command.{values_under}
+use Rattle.picky_outside.specs.Outside.{texts_of}
 use Rattle.picky_gate.proofs.Values.{values_in}
 use Rattle.picky_gate.proofs.words.values_of.Given as goal
 

@@ -1,8 +1,8 @@
 // The standard output. What it took is not told, so no clause speaks of it.
 ghost use Rattle.std.specs.Prelude.{◌≡◌, ◌⊎◌, ◌≤◌, ◌<◌, ℕ, ◌+◌, List, Option, None, IfOk, IfSome, OnOk, OnErr, IfNone, length, take};
 ghost use Rattle.std.specs.Io.KnownBytes.{Keeps, Appends};
-ghost use Rattle.picky_gate.specs.Outside.{Adds, WriteCause, IsTakenOf};
-ghost use Rattle.picky_gate.specs.Shelf.{counted};
+ghost use Rattle.picky_outside.specs.Outside.{Adds, WriteCause, IsTakenOf};
+ghost use Rattle.picky_outside.specs.Shelf.{counted};
 
 use crate::{Failed, Sink};
 use std::io;

@@ -2,24 +2,14 @@
 use Rattle.std.proofs.Common.{◌≡◌, ◌<◌, ℕ, ◌-◌, List, [], ◌∷◌, ◌++◌, length, take, drop, Option, Some, None, refl, sym, ◌∙◌, ap, subst, append_assoc, arith, length-append, length-drop}
 use Rattle.std.proofs.lemmas.List.{append-nil, take-append-drop, take_all}
 use Rattle.std.proofs.Math.Seq.{take-append_seam}
-use Rattle.picky_gate.specs.Outside.{Adds}
+use Rattle.picky_outside.specs.Outside.{Adds}
+use Rattle.picky_outside.specs.laws.Adding.{adds_nothing, adds_more}
 
 -- all but the rest of the bytes were added
 pub record Written (before : Option (List ℕ)) (bytes rest : List ℕ) (now : Option (List ℕ)) : Type 0 where
   pub done : List ℕ
   pub split : done ++ rest ≡ bytes
   pub added : Adds before done now
-
-module _ {A : Type 0} where
-  pub adds_nothing : (before now : Option (List A)) → now ≡ before → Adds before [] now
-  adds_nothing None now same = tt
-  adds_nothing (Some old) now same = same ∙ ap (λ (l : List A). Some l) (sym (append-nil old))
-
-  pub adds_more : (before now later : Option (List A)) (a b : List A) → Adds before a now → Adds now b later → Adds before (a ++ b) later
-  adds_more None now later a b first second = tt
-  adds_more (Some old) now later a b first second =
-      let told : Adds (Some (old ++ a)) b later = subst (λ (o : Option (List A)). Adds o b later) first second in
-      told ∙ ap (λ (l : List A). Some l) (append_assoc old a b)
 
 -- at the start nothing was
 pub written_none : (before : Option (List ℕ)) (bytes : List ℕ) → Written before bytes bytes before

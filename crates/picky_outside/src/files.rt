@@ -1,8 +1,8 @@
 // The files of the system. What they hold is not told, so no clause speaks of it.
 ghost use Rattle.std.specs.Prelude.{◌≡◌, ◌≢◌, ◌≤◌, ◌+◌, ℕ, List, Option, None, Ok, IfOk, IfErr, OnOk, IsErrOf, vec_len};
 ghost use Rattle.std.specs.IoError.{error_kind};
-ghost use Rattle.picky_gate.specs.Outside.{IsFetched, FetchCause, FetchAsks};
-ghost use Rattle.picky_gate.specs.Shelf.{counted};
+ghost use Rattle.picky_outside.specs.Outside.{IsFetched, FetchCause, FetchAsks};
+ghost use Rattle.picky_outside.specs.Shelf.{counted};
 
 use crate::{Cabinet, FetchFault};
 use std::alloc::Global;

@@ -1,7 +1,7 @@
 // Where the output goes.
 ghost use Rattle.std.specs.Prelude.{◌≡◌, ◌⊎◌, ◌≤◌, ◌<◌, ℕ, ◌++◌, ◌+◌, List, [], Option, Some, IfOk, OnOk, OnErr, IsErr, IsOkAnd, length, take};
-ghost use Rattle.picky_gate.specs.Outside.{Adds, WriteCause};
-ghost use Rattle.picky_gate.specs.Shelf.{counted, taken, filled};
+ghost use Rattle.picky_outside.specs.Outside.{Adds, WriteCause};
+ghost use Rattle.picky_outside.specs.Shelf.{counted, taken, filled};
 
 use std::alloc::{AllocError, Global};
 use std::marker::Model;
@@ -63,7 +63,7 @@ pub struct MemorySink {
 
 impl Model for MemorySink {
     ghost use Rattle.std.specs.Prelude.{◌≤◌, ◌+◌, vec_capacity, vec_len};
-    ghost use Rattle.picky_gate.specs.Shelf.{Filled};
+    ghost use Rattle.picky_outside.specs.Shelf.{Filled};
 
     ghost Value = { Filled };
 

@@ -1,9 +1,9 @@
 // A cabinet in memory that never fails.
 ghost use Rattle.std.specs.Prelude.{◌≡◌, ◌⊎◌, ◌+◌, ℕ, List, [], ◌∷◌, ◌++◌, Some, IfOk, OnOk, OnErr, IsOkUnless, take};
 ghost use Rattle.std.specs.FinMap as finite;
-ghost use Rattle.picky_gate.specs.Command.{texts_of};
-ghost use Rattle.picky_gate.specs.Outside.{IsFetched, FetchCause, FetchAsks};
-ghost use Rattle.picky_gate.specs.Shelf.{or_nothing};
+ghost use Rattle.picky_outside.specs.Outside.{texts_of};
+ghost use Rattle.picky_outside.specs.Outside.{IsFetched, FetchCause, FetchAsks};
+ghost use Rattle.picky_outside.specs.Shelf.{or_nothing};
 
 use crate::cabinet::{first_bytes, note};
 use crate::{Cabinet, FetchFault};
@@ -23,8 +23,8 @@ pub struct FixedCabinet {
 }
 
 impl Model for FixedCabinet {
-    ghost use Rattle.picky_gate.specs.Command.{texts_of};
-    ghost use Rattle.picky_gate.specs.Shelf.{Fixed, fixed_code};
+    ghost use Rattle.picky_outside.specs.Outside.{texts_of};
+    ghost use Rattle.picky_outside.specs.Shelf.{Fixed, fixed_code};
     ghost use Rattle.picky_ring.specs.TextMap.{by_text};
 
     ghost Value = { Fixed };

@@ -2,10 +2,15 @@
 --
 -- An object of the outside may keep to itself what it holds, what it took or what it was asked: then
 -- that meaning is none, and a clause says no more of bytes than their number.
-use Rattle.std.specs.Prelude.{◌≡◌, ◌⊎◌, ◌≤◌, ◌<◌, ℕ, ◌+◌, List, [], ◌∷◌, ◌++◌, length, take, Option, Some, None, MatchOption, Result, Ok, Err, OnOk, OnErr, IsErrOf}
+use Rattle.std.specs.Prelude.{◌≡◌, ◌⊎◌, ◌≤◌, ◌<◌, ℕ, ◌+◌, List, [], ◌∷◌, ◌++◌, length, take, Option, Some, None, MatchOption, Result, Ok, Err, OnOk, OnErr, IsErrOf, String, string_bytes, map}
+use Rattle.std.specs.declared.alloc.Global.{Global}
 use Rattle.picky_contract.specs.Causes.{Rose}
-use Rattle.picky_gate.specs.declared.cabinet.FetchFault.{FetchFault}
-use Rattle.picky_gate.specs.declared.cabinet.FetchFault.TheVariants as fetch
+use Rattle.picky_outside.specs.declared.cabinet.FetchFault.{FetchFault}
+use Rattle.picky_outside.specs.declared.cabinet.FetchFault.TheVariants as fetch
+
+-- the texts of words, as bytes
+abbrev pub texts_of : List (String Global) → List (List ℕ)
+texts_of words = map string_bytes words
 
 -- the bytes are the content, or its first limit + 1 bytes where it is longer
 abbrev pub IsFetched : Option (List ℕ) → ℕ → List ℕ → Type 0

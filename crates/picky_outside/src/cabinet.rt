@@ -1,9 +1,9 @@
 // Where documents come from.
 ghost use Rattle.std.specs.Prelude.{◌≡◌, ◌⊎◌, ◌≤◌, ◌+◌, ℕ, List, [], ◌∷◌, ◌++◌, Option, Some, None, IfOk, OnOk, OnErr, IsErr, IsErrOf, IsOkUnless, take};
 ghost use Rattle.std.specs.FinMap as finite;
-ghost use Rattle.picky_gate.specs.Command.{texts_of};
-ghost use Rattle.picky_gate.specs.Outside.{IsFetched, FetchCause, FetchAsks};
-ghost use Rattle.picky_gate.specs.Shelf.{counted, called, noted, FailsNext};
+ghost use Rattle.picky_outside.specs.Outside.{texts_of};
+ghost use Rattle.picky_outside.specs.Outside.{IsFetched, FetchCause, FetchAsks};
+ghost use Rattle.picky_outside.specs.Shelf.{counted, called, noted, FailsNext};
 
 use picky_contract::Bytes;
 use picky_ring::text_map::{look_up, put};
@@ -88,8 +88,8 @@ pub struct MemoryCabinet {
 }
 
 impl Model for MemoryCabinet {
-    ghost use Rattle.picky_gate.specs.Command.{texts_of};
-    ghost use Rattle.picky_gate.specs.Shelf.{Shelf, shelf_code};
+    ghost use Rattle.picky_outside.specs.Outside.{texts_of};
+    ghost use Rattle.picky_outside.specs.Shelf.{Shelf, shelf_code};
     ghost use Rattle.picky_ring.specs.TextMap.{by_text};
 
     ghost Value = { Shelf };
