@@ -1,7 +1,7 @@
 -- The key's block in the front of an array, and HMAC from what the two hashers hold.
 use Rattle.std.proofs.Common.{◌≡◌, ℕ, zero, suc, ◌+◌, ◌-◌, ◌<◌, ◌≤◌, true, false, nat_lt, List, [], ◌∷◌, ◌++◌, length, map, take, drop, replicate, ap, ◌∙◌, subst, arith, bit_xor}
 use Rattle.std.proofs.lemmas.Bool.Decides.{nat_tests}
-use Rattle.std.proofs.lemmas.List.{append_assoc, drop-replicate, length-take-le, take-map, take-replicate}
+use Rattle.std.proofs.lemmas.List.{drop-replicate, length-take-le, take-map, take-replicate}
 use Rattle.picky_kdf.specs.Hash.{block_size, digest, digest_size}
 use Rattle.picky_kdf.specs.Hasher.{IsHolding}
 use Rattle.picky_kdf.specs.Hmac.{hmac, key_block, padded_key, zero_filled}
@@ -45,11 +45,10 @@ front-padded hash pad key block masked size eb em es =
 pub holding_as : (hash : Pkcs12HashAlgorithm) (hasher : Hasher) (was now : List ℕ) → was ≡ now → IsHolding hash hasher was → IsHolding hash hasher now
 holding_as hash hasher was now e h = subst (IsHolding hash hasher) e h
 
-pub mac-is : (hash : Pkcs12HashAlgorithm) (key first second inner out : List ℕ) (size : ℕ) → size ≡ digest_size hash
-    → take (digest_size hash) inner ≡ digest hash ((padded_key hash 0x36 key ++ first) ++ second)
+pub mac-is : (hash : Pkcs12HashAlgorithm) (key message inner out : List ℕ) (size : ℕ) → size ≡ digest_size hash
+    → take (digest_size hash) inner ≡ digest hash (padded_key hash 0x36 key ++ message)
     → take (digest_size hash) out ≡ digest hash (padded_key hash 0x5C key ++ take size inner)
-    → take (digest_size hash) out ≡ hmac hash key (first ++ second)
+    → take (digest_size hash) out ≡ hmac hash key message
 unfolding hmac
-mac-is hash key first second inner out size es ei eo =
-    eo ∙ ap (λ t. digest hash (padded_key hash 0x5C key ++ t))
-    (ap (λ n. take n inner) es ∙ ei ∙ ap (digest hash) (append_assoc (padded_key hash 0x36 key) first second))
+mac-is hash key message inner out size es ei eo =
+    eo ∙ ap (λ t. digest hash (padded_key hash 0x5C key ++ t)) (ap (λ n. take n inner) es ∙ ei)

@@ -2,7 +2,7 @@
 use Rattle.std.proofs.Common.{◌≡◌, ℕ, zero, suc, ◌+◌, ◌<◌, List, [], ◌∷◌, ◌++◌, length, take, drop, get_or, set, replicate, refl, sym, ap, ◌∙◌, arith, add-one, bit_xor}
 use Rattle.std.specs.Int.{to_be_bytes, w32}
 use Rattle.std.specs.Int.Bits.{xor_zero_l}
-use Rattle.std.proofs.lemmas.List.{append-nil, length-take-le}
+use Rattle.std.proofs.lemmas.List.{length-take-le}
 use Rattle.picky_kdf.specs.Hash.{digest_size}
 use Rattle.picky_kdf.specs.Hmac.{hmac}
 use Rattle.picky_contract.specs.Sums.{add_bytes}
@@ -51,11 +51,11 @@ first-sum hash password salt number out el e =
 
 -- U_(n + 1) from U_n
 pub next-iterated : (hash : Pkcs12HashAlgorithm) (password salt : List ℕ) (number n size : ℕ) (last out : List ℕ) → size ≡ digest_size hash
-    → take (digest_size hash) last ≡ iterated hash password salt number n → take (digest_size hash) out ≡ hmac hash password (take size last ++ [])
+    → take (digest_size hash) last ≡ iterated hash password salt number n → take (digest_size hash) out ≡ hmac hash password (take size last)
     → take (digest_size hash) out ≡ iterated hash password salt number (n + 1)
 unfolding iterated
 next-iterated hash password salt number n size last out es el eo =
-    rw (add-one n) (eo ∙ ap (hmac hash password) (append-nil (take size last) ∙ ap (λ k. take k last) es ∙ el))
+    rw (add-one n) (eo ∙ ap (hmac hash password) (ap (λ k. take k last) es ∙ el))
 
 -- U_1 + … + U_n + U_(n + 1)
 pub next-sum : (hash : Pkcs12HashAlgorithm) (password salt : List ℕ) (number n : ℕ) (out sum new : List ℕ)

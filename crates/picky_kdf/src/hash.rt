@@ -107,19 +107,41 @@ impl Hasher {
         }
     }
 
-    // The hash of the message, in the front of an array.
-    pub(crate) fn finalize(self) -> [u8; 64]
+    // The hash of the message with `text` after it, in the front of an array. Inlined, since a loop
+    // of calls takes a tenth more time.
+    #[inline(always)]
+    pub(crate) fn hash_after(&self, text: &[u8]) -> [u8; 64]
         ensures { (hash : Pkcs12HashAlgorithm) → (message : List ℕ)
-            → IsHolding hash self message
-            → take (digest_size hash) result ≡ digest hash message }
+            → IsHolding hash self.now message
+            → take (digest_size hash) result ≡ digest hash (message ++ text.now) }
     {
         let mut out = [0; 64];
         match self {
-            Hasher::Sha1(hasher) => out[..20].copy_from_slice(&hasher.finalize()),
-            Hasher::Sha224(hasher) => out[..28].copy_from_slice(&hasher.finalize()),
-            Hasher::Sha256(hasher) => out[..32].copy_from_slice(&hasher.finalize()),
-            Hasher::Sha384(hasher) => out[..48].copy_from_slice(&hasher.finalize()),
-            Hasher::Sha512(hasher) => out[..64].copy_from_slice(&hasher.finalize()),
+            Hasher::Sha1(hasher) => {
+                let mut hasher = copied(hasher);
+                hasher.update(text);
+                out[..20].copy_from_slice(&hasher.finalize());
+            }
+            Hasher::Sha224(hasher) => {
+                let mut hasher = copied(hasher);
+                hasher.update(text);
+                out[..28].copy_from_slice(&hasher.finalize());
+            }
+            Hasher::Sha256(hasher) => {
+                let mut hasher = copied(hasher);
+                hasher.update(text);
+                out[..32].copy_from_slice(&hasher.finalize());
+            }
+            Hasher::Sha384(hasher) => {
+                let mut hasher = copied(hasher);
+                hasher.update(text);
+                out[..48].copy_from_slice(&hasher.finalize());
+            }
+            Hasher::Sha512(hasher) => {
+                let mut hasher = copied(hasher);
+                hasher.update(text);
+                out[..64].copy_from_slice(&hasher.finalize());
+            }
         }
         out
     }

@@ -13,9 +13,7 @@ fn key_block(hash: Pkcs12HashAlgorithm, key: &[u8]) -> [u8; 128]
 {
     let mut block = [0; 128];
     if key.len() > hash.block_size() {
-        let mut hasher = Hasher::new(hash);
-        hasher.update(key);
-        let digest = hasher.finalize();
+        let digest = Hasher::new(hash).hash_after(key);
         let size = hash.digest_size();
         block[..size].copy_from_slice(&digest[..size]);
     } else {
@@ -56,18 +54,30 @@ impl KeyedHashers {
         KeyedHashers { inner, outer }
     }
 
+    // The HMAC of `message`, in the front of an array.
+    #[inline(always)]
+    pub(crate) fn mac(&self, hash: Pkcs12HashAlgorithm, message: &[u8]) -> [u8; 64]
+        ensures { (key : List ℕ) → IsKeyed hash self.now key
+            → take (digest_size hash) result ≡ hmac hash key message.now }
+    {
+        let digest = self.inner.hash_after(message);
+        self.outer.hash_after(&digest[..hash.digest_size()])
+    }
+
     // The HMAC of `first` and `second` as one message, in the front of an array.
-    pub(crate) fn mac(&self, hash: Pkcs12HashAlgorithm, first: &[u8], second: &[u8]) -> [u8; 64]
+    pub(crate) fn mac_of_two(
+        &self,
+        hash: Pkcs12HashAlgorithm,
+        first: &[u8],
+        second: &[u8],
+    ) -> [u8; 64]
         ensures { (key : List ℕ) → IsKeyed hash self.now key
             → take (digest_size hash) result ≡ hmac hash key (first.now ++ second.now) }
     {
         let mut inner = self.inner.copied();
         inner.update(first);
-        inner.update(second);
-        let digest = inner.finalize();
-        let mut outer = self.outer.copied();
-        outer.update(&digest[..hash.digest_size()]);
-        outer.finalize()
+        let digest = inner.hash_after(second);
+        self.outer.hash_after(&digest[..hash.digest_size()])
     }
 }
 
@@ -82,6 +92,6 @@ pub fn hmac(
     ensures mac { IfOk result (λ mac. mac.items ≡ hmac hash key.now message.now) }
     ensures size { IfOk result (λ mac. length mac.items ≡ digest_size hash) }
 {
-    let mac = KeyedHashers::new(hash, key).mac(hash, message, &[]);
+    let mac = KeyedHashers::new(hash, key).mac(hash, message);
     mac[..hash.digest_size()].to_vec(alloc)
 }

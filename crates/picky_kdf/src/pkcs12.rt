@@ -98,8 +98,7 @@ fn round_hash(
 {
     let mut hasher = Hasher::new(hash);
     hasher.update(diversifier);
-    hasher.update(text);
-    let mut front = hasher.finalize();
+    let mut front = hasher.hash_after(text);
     rehash_by(hash, &mut front, iterations - 1);
     front
 }

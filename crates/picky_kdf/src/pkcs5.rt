@@ -33,10 +33,10 @@ fn key_sum(
         → take (digest_size hash) result ≡ key_sum hash password salt.now number iterations }
 {
     let size = hash.digest_size();
-    let mut last = hashers.mac(hash, salt, &number.to_be_bytes());
+    let mut last = hashers.mac_of_two(hash, salt, &number.to_be_bytes());
     let mut sum = last;
     for done in 1..iterations {
-        last = hashers.mac(hash, &last[..size], &[]);
+        last = hashers.mac(hash, &last[..size]);
         add_bytes(&mut sum, &last);
     }
     sum

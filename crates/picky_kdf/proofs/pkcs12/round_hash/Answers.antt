@@ -8,5 +8,5 @@ returns c =
     let text = c.args.diversifier.now ++ c.args.text.now in
     let all : 1 + (c.args.iterations - 1) ≡ c.args.iterations = omega arith in
     c.rehash_by.ensures text 1
-    (first-hashed c.args.hash text c.finalize-front.result (c.finalize-front.ensures c.args.hash _ (c.update-2.ensures c.args.hash _ (c.update.ensures c.args.hash _ c.new-hasher.ensures))))
+    (first-hashed c.args.hash text c.hash_after-front.result (c.hash_after-front.ensures c.args.hash _ (c.update.ensures c.args.hash _ c.new-hasher.ensures)))
     ∙ ap (hashed c.args.hash text) all
