@@ -1,54 +1,28 @@
-//! Callers of the crates, as a user writes them, each with the contract that it earns.
+//! Callers of the crates, as a user writes them, each with the contract that it earns. A module has those of one library.
+//!
+//! - `keys` and `agreement`: `picky_key`.
+//! - `key_sets`: `picky_jwk`.
+//! - `tokens`: `picky_jose`.
+//! - `requests`: `picky_http`.
+//! - `dates`: `picky_asn1`.
+//! - `encodings`: `picky_der`.
+//! - `seals`: `picky_cipher`.
 #![tactic(auto)]
 
-ghost use Rattle.std.specs.Prelude.{◌≡◌, IfOk};
-ghost use Rattle.serde_json.specs.View.{view};
-ghost use Rattle.picky_contract.specs.Refusals.{Meets};
-ghost use Rattle.picky_records.specs.Meanings.{signs_by};
-ghost use Rattle.picky_jose.specs.Faults.{jwt_fault};
-ghost use Rattle.uses.specs.Accepted.{Accepted, accepted_table, date_at};
-
 mod agreement;
+mod dates;
+mod encodings;
+mod key_sets;
+mod keys;
+mod requests;
+mod seals;
+mod tokens;
 
 pub use agreement::{ephemeral_is_agreed, recorded_is_agreed};
-use picky_jose::{JwtDate, JwtError, JwtSig, JwtValidator, RawJws};
-use picky_key::{KeyProvider, PublicKey};
-use picky_records::Recorded;
-use serde_json::Value;
-use std::alloc::Global;
-use std::borrow::CowStr;
-
-/// The claims of a token whose signature holds under the key, at a moment in seconds that its dates
-/// allow, 30 seconds aside.
-///
-/// A refusal is that of the first condition that fails.
-pub fn accepted_claims<P: KeyProvider>(
-    alloc: Global,
-    text: &str,
-    provider: &P,
-    key: &PublicKey,
-    now: i64,
-) -> Result<Value, JwtError>
-    ensures found { IfOk result (λ claims. Accepted (P.signs provider.now) key.now (date_at now) text.now (view claims)) }
-    ensures first { Meets view jwt_fault result (accepted_table (P.signs provider.now) key.now (date_at now) text.now) }
-{
-    let token = RawJws::decode(alloc, CowStr::Borrowed(text))?;
-    let token = token.verify(alloc, provider, key)?;
-    let date = JwtDate::new_with_leeway(now, 30);
-    let token = JwtSig::from(token).validate::<Value>(alloc, &JwtValidator::lenient(date))?;
-    Ok(token.state.claims)
-}
-
-/// The same by the signatures of a records document.
-pub fn recorded_claims(
-    alloc: Global,
-    text: &str,
-    records: &Recorded,
-    key: &PublicKey,
-    now: i64,
-) -> Result<Value, JwtError>
-    ensures found { IfOk result (λ claims. Accepted (signs_by records.now.lines.items) key.now (date_at now) text.now (view claims)) }
-    ensures first { Meets view jwt_fault result (accepted_table (signs_by records.now.lines.items) key.now (date_at now) text.now) }
-{
-    accepted_claims(alloc, text, records, key, now)
-}
+pub use dates::utc_text_of;
+pub use encodings::{identifier_again, rewritten};
+pub use key_sets::public_key_named;
+pub use keys::is_signed_under;
+pub use requests::signed_request;
+pub use seals::{open_text, seal_text};
+pub use tokens::{accepted_claims, recorded_claims};

@@ -10,7 +10,7 @@ use Rattle.picky_jose.specs.Views.{Content, payload_of}
 use Rattle.picky_jose.specs.laws.Claims.{itself_leads}
 use Rattle.uses.specs.Accepted.{date_at, accepted_table}
 use Rattle.uses.proofs.Steps.{not_read, not_signed, not_dated, all_hold, accepted}
-use Rattle.uses.proofs.accepted_claims.Goals as goal
+use Rattle.uses.proofs.tokens.accepted_claims.Goals as goal
 
 pub returns-in_err-token-clause-first : goal.returns-in_err-token-clause-first
 returns-in_err-token-clause-first g c =
