@@ -6,18 +6,20 @@
 //     header_in_json.beside NAME TEXT   the header with EdDSA and one additional member, whose tree is the text's, as compact text
 //     header_in_json.new TEXT           the header with EdDSA and this content type, as compact text
 use anyhow::{Result, bail};
+use indexmap::IndexMap;
 use picky_json::parse;
 use picky_jwk_names::JwsAlg;
 use picky_jws_header::JwsHeader;
 use picky_members::FormError;
 use rows::{Answer, Words};
-use std::alloc::Global;
+use serde_json::Value;
+use std::alloc::{AllocError, Global};
 
 pub(crate) fn answer(alloc: Global, call: &str, words: &mut Words<'_>) -> Result<Answer> {
     match call {
         "again" => told(alloc, again(alloc, words.rest())),
         "names" => told(alloc, names(alloc, words.rest())),
-        "equal" => equal(alloc, words.next(), words.rest()),
+        "equal" => compared(alloc, equal(alloc, words.next(), words.rest())),
         "beside" => told(alloc, beside(alloc, words.next(), words.rest())),
         "new" => told(alloc, new(alloc, words.rest())),
         _ => bail!("no such call"),
@@ -32,56 +34,98 @@ fn told(alloc: Global, text: Result<String, FormError>) -> Result<Answer> {
     }
 }
 
-fn header_of(alloc: Global, text: &str) -> Result<JwsHeader, FormError> {
+// Whether both are equal, or the refusal.
+fn compared(alloc: Global, equal: Result<bool, FormError>) -> Result<Answer> {
+    match equal {
+        Ok(equal) => Ok(Answer::Truth(equal)),
+        Err(error) => Answer::debug(alloc, &error),
+    }
+}
+
+fn tree_in(alloc: Global, text: &str) -> Result<Value, FormError> {
     match parse(alloc, text.as_bytes())? {
-        Some(tree) => JwsHeader::from_tree(alloc, &tree),
+        Some(tree) => Ok(tree),
         None => Err(FormError::NotOfForm),
     }
 }
 
-fn text_of(alloc: Global, header: &JwsHeader) -> Result<String, FormError> {
-    let tree = header.to_tree(alloc)?;
-    Ok(tree.to_string(alloc)?)
+fn header_of(alloc: Global, tree: Value) -> Result<JwsHeader, FormError> {
+    JwsHeader::from_tree(alloc, &tree)
+}
+
+fn header_in(alloc: Global, text: &str) -> Result<JwsHeader, FormError> {
+    header_of(alloc, tree_in(alloc, text)?)
+}
+
+fn tree_of(alloc: Global, header: JwsHeader) -> Result<Value, FormError> {
+    header.to_tree(alloc)
+}
+
+fn compact(alloc: Global, tree: Value) -> Result<String, AllocError> {
+    tree.to_string(alloc)
+}
+
+fn text_of(alloc: Global, header: JwsHeader) -> Result<String, FormError> {
+    Ok(compact(alloc, tree_of(alloc, header)?)?)
+}
+
+fn copied(alloc: Global, header: JwsHeader) -> Result<JwsHeader, AllocError> {
+    header.clone(alloc)
 }
 
 fn again(alloc: Global, text: &str) -> Result<String, FormError> {
-    let header = header_of(alloc, text)?.clone(alloc)?;
-    text_of(alloc, &header)
+    text_of(alloc, copied(alloc, header_in(alloc, text)?)?)
+}
+
+fn keys(alloc: Global, members: &IndexMap<String, Value>) -> Result<String, AllocError> {
+    let mut keys = String::new(alloc);
+    for (key, _tree) in members.iter() {
+        if !keys.is_empty() {
+            keys.push(' ')?;
+        }
+        keys.push_str(key)?;
+    }
+    Ok(keys)
+}
+
+fn names_of(alloc: Global, header: JwsHeader) -> Result<String, AllocError> {
+    keys(alloc, &header.additional)
 }
 
 fn names(alloc: Global, text: &str) -> Result<String, FormError> {
-    let header = header_of(alloc, text)?;
-    let mut names = String::new(alloc);
-    for (name, _tree) in header.additional.iter() {
-        if !names.is_empty() {
-            names.push(' ')?;
-        }
-        names.push_str(name)?;
-    }
-    Ok(names)
+    Ok(names_of(alloc, header_in(alloc, text)?)?)
 }
 
-fn equal(alloc: Global, text: &str, other: &str) -> Result<Answer> {
-    match (header_of(alloc, text), header_of(alloc, other)) {
-        (Ok(header), Ok(other)) => Ok(Answer::Truth(header == other)),
-        _ => bail!("no header"),
-    }
+fn same(header: JwsHeader, other: JwsHeader) -> bool {
+    header == other
+}
+
+fn equal(alloc: Global, text: &str, other: &str) -> Result<bool, FormError> {
+    let header = header_in(alloc, text)?;
+    Ok(same(header, header_in(alloc, other)?))
+}
+
+fn member(alloc: Global, name: &str, tree: Value) -> Result<IndexMap<String, Value>, AllocError> {
+    let mut members = IndexMap::new(alloc);
+    drop(members.insert(String::from_str(alloc, name)?, tree)?);
+    Ok(members)
+}
+
+fn with_members(alloc: Global, members: IndexMap<String, Value>) -> JwsHeader {
+    let mut header = JwsHeader::new(alloc, JwsAlg::EdDSA);
+    header.additional = members;
+    header
 }
 
 fn beside(alloc: Global, name: &str, text: &str) -> Result<String, FormError> {
-    let Some(tree) = parse(alloc, text.as_bytes())? else {
-        return Err(FormError::NotOfForm);
-    };
-    let mut header = JwsHeader::new(alloc, JwsAlg::EdDSA);
-    drop(
-        header
-            .additional
-            .insert(String::from_str(alloc, name)?, tree)?,
-    );
-    text_of(alloc, &header)
+    let members = member(alloc, name, tree_in(alloc, text)?)?;
+    text_of(alloc, with_members(alloc, members))
+}
+
+fn with_cty(alloc: Global, cty: &str) -> Result<JwsHeader, AllocError> {
+    JwsHeader::new_with_cty(alloc, JwsAlg::EdDSA, cty)
 }
 
 fn new(alloc: Global, cty: &str) -> Result<String, FormError> {
-    let header = JwsHeader::new_with_cty(alloc, JwsAlg::EdDSA, cty)?;
-    text_of(alloc, &header)
+    text_of(alloc, with_cty(alloc, cty)?)
 }

@@ -2,69 +2,75 @@
 //
 //     r   read, and a public key is written back as it stood
 //     o   read, and written otherwise
-//     D   Der        U   UnsupportedAlgorithm        S   BadSize        P   BadPoint
-use anyhow::{Result, bail};
+//     D   Der        U   UnsupportedAlgorithm        S   BadSize        P   BadPoint        ?   another refusal
+use crate::{private, public};
+use anyhow::Result;
 use picky_key_der::{KeyError, PublicKey};
-use picky_key_private::PrivateKey;
-use rows::Answer;
-use std::alloc::Global;
+use rows::{Answer, Words};
+use std::alloc::{AllocError, Global};
 
-fn changed(alloc: Global, bytes: &[u8], place: usize) -> Result<Vec<u8>> {
-    let mut changed = Vec::new(alloc);
-    for (index, byte) in bytes.iter().enumerate() {
-        if index == place {
-            changed.push(*byte ^ 1)?;
-        } else {
-            changed.push(*byte)?;
-        }
+/// Which of a pair's keys is read.
+#[derive(Clone, Copy)]
+pub enum Half {
+    Public,
+    Private,
+}
+
+fn changed(alloc: Global, bytes: &[u8], place: usize) -> Result<Vec<u8>, AllocError> {
+    let mut changed = Vec::from_slice(alloc, bytes)?;
+    if let Some(byte) = changed.get_mut(place) {
+        *byte ^= 1;
     }
     Ok(changed)
 }
 
-fn refused(error: KeyError) -> Result<char> {
+fn refused(error: &KeyError) -> char {
     match error {
-        KeyError::Der(_) => Ok('D'),
-        KeyError::UnsupportedAlgorithm { .. } => Ok('U'),
-        KeyError::BadSize { .. } => Ok('S'),
-        KeyError::BadPoint => Ok('P'),
-        _ => bail!("no such refusal"),
+        KeyError::Der(_) => 'D',
+        KeyError::UnsupportedAlgorithm { .. } => 'U',
+        KeyError::BadSize { .. } => 'S',
+        KeyError::BadPoint => 'P',
+        _ => '?',
     }
 }
 
-fn public_letter(alloc: Global, bytes: &[u8]) -> Result<char> {
-    match PublicKey::from_der(alloc, bytes) {
-        Ok(key) => {
-            if key.to_der(alloc)?.as_slice() == bytes {
-                Ok('r')
-            } else {
-                Ok('o')
-            }
-        }
-        Err(error) => refused(error),
+fn written(alloc: Global, key: &PublicKey, bytes: &[u8]) -> char {
+    match public::der_of(alloc, key) {
+        Ok(der) => { if der.as_slice() == bytes { 'r' } else { 'o' } }
+        Err(error) => refused(&error),
     }
 }
 
-fn private_letter(alloc: Global, bytes: &[u8]) -> Result<char> {
-    match PrivateKey::from_pkcs8(alloc, bytes) {
-        Ok(_) => Ok('r'),
-        Err(error) => refused(error),
+fn public_letter(alloc: Global, bytes: &[u8]) -> char {
+    match public::key_in(alloc, bytes) {
+        Ok(key) => written(alloc, &key, bytes),
+        Err(error) => refused(&error),
     }
 }
 
-/// The letters of a public key's bytes.
-pub fn public(alloc: Global, bytes: &[u8]) -> Result<Answer> {
+fn private_letter(alloc: Global, bytes: &[u8]) -> char {
+    match private::key_in(alloc, bytes) {
+        Ok(_) => 'r',
+        Err(error) => refused(&error),
+    }
+}
+
+fn letter(alloc: Global, half: Half, bytes: &[u8]) -> char {
+    match half {
+        Half::Public => public_letter(alloc, bytes),
+        Half::Private => private_letter(alloc, bytes),
+    }
+}
+
+fn letters(alloc: Global, half: Half, bytes: &[u8]) -> Result<String, AllocError> {
     let mut letters = String::new(alloc);
     for place in 0..bytes.len().min(64) {
-        letters.push(public_letter(alloc, &changed(alloc, bytes, place)?)?)?;
+        letters.push(letter(alloc, half, &changed(alloc, bytes, place)?))?;
     }
-    Ok(Answer::Text(letters))
+    Ok(letters)
 }
 
-/// The letters of a private key's bytes.
-pub fn private(alloc: Global, bytes: &[u8]) -> Result<Answer> {
-    let mut letters = String::new(alloc);
-    for place in 0..bytes.len().min(64) {
-        letters.push(private_letter(alloc, &changed(alloc, bytes, place)?)?)?;
-    }
-    Ok(Answer::Text(letters))
+/// The letters of a key's bytes.
+pub fn answer(alloc: Global, half: Half, words: &mut Words<'_>) -> Result<Answer> {
+    Ok(Answer::Text(letters(alloc, half, &words.bytes(alloc)?)?))
 }

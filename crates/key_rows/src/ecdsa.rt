@@ -7,15 +7,14 @@ use std::alloc::Global;
 
 pub fn answer(alloc: Global, call: &str, words: &mut Words<'_>) -> Result<Answer> {
     let size = words.size()?;
-    let bytes = words.bytes(alloc)?;
     match call {
-        "of" => of(alloc, size, &bytes),
-        "fixed" => fixed(alloc, size, &bytes),
+        "of" => of(alloc, size, words),
+        "fixed" => fixed(alloc, size, words),
         _ => bail!("no such call"),
     }
 }
 
-fn refusal(error: SignatureError) -> Answer {
+fn refusal(error: &SignatureError) -> Answer {
     match error {
         SignatureError::Ec { .. } => Answer::Word("Ec"),
         SignatureError::OutOfMemory => Answer::Word("OutOfMemory"),
@@ -23,23 +22,30 @@ fn refusal(error: SignatureError) -> Answer {
     }
 }
 
-fn of(alloc: Global, size: usize, bytes: &[u8]) -> Result<Answer> {
+fn written(alloc: Global, pair: &EcdsaSignatureValue) -> Result<Answer> {
+    Answer::bytes(alloc, &to_vec(alloc, pair)?)
+}
+
+fn of(alloc: Global, size: usize, words: &mut Words<'_>) -> Result<Answer> {
     if size == 0 || 66 < size {
         bail!("no such size");
     }
-    match EcdsaSignatureValue::from_fixed(alloc, bytes, size) {
-        Ok(pair) => Answer::bytes(alloc, &to_vec(alloc, &pair)?),
-        Err(error) => Ok(refusal(error)),
+    match EcdsaSignatureValue::from_fixed(alloc, &words.bytes(alloc)?, size) {
+        Ok(pair) => written(alloc, &pair),
+        Err(error) => Ok(refusal(&error)),
     }
 }
 
-fn fixed(alloc: Global, size: usize, bytes: &[u8]) -> Result<Answer> {
-    let pair: EcdsaSignatureValue = from_bytes(alloc, bytes)?;
+fn halves(alloc: Global, pair: &EcdsaSignatureValue, size: usize) -> Result<Answer> {
     if !pair.is_proper() {
         return Ok(Answer::Word("improper"));
     }
     match pair.to_fixed(alloc, size) {
         Ok(halves) => Answer::bytes(alloc, &halves),
-        Err(error) => Ok(refusal(error)),
+        Err(error) => Ok(refusal(&error)),
     }
+}
+
+fn fixed(alloc: Global, size: usize, words: &mut Words<'_>) -> Result<Answer> {
+    halves(alloc, &from_bytes(alloc, &words.bytes(alloc)?)?, size)
 }

@@ -1,42 +1,51 @@
 // Private keys.
-use crate::damage;
-use crate::public::{curve_text, kind_text, name_of, refusal};
+use crate::damage::{self, Half};
+use crate::public::{curve_of, name_of, parts_of, refusal};
 use anyhow::{Result, bail};
+use picky_key_der::KeyError;
 use picky_key_private::{PrivateKey, PrivateKeyKind};
 use rows::{Answer, Words};
 use std::alloc::Global;
 
 pub fn answer(alloc: Global, call: &str, words: &mut Words<'_>) -> Result<Answer> {
-    let bytes = words.bytes(alloc)?;
-    if call == "damaged" {
-        return damage::private(alloc, &bytes);
+    match call {
+        "damaged" => damage::answer(alloc, Half::Private, words),
+        _ => of_read(alloc, call, words),
     }
-    match PrivateKey::from_pkcs8(alloc, &bytes) {
+}
+
+/// The key that the bytes spell.
+pub fn key_in(alloc: Global, bytes: &[u8]) -> Result<PrivateKey, KeyError> {
+    PrivateKey::from_pkcs8(alloc, bytes)
+}
+
+fn of_read(alloc: Global, call: &str, words: &mut Words<'_>) -> Result<Answer> {
+    match key_in(alloc, &words.bytes(alloc)?) {
         Ok(key) => told(alloc, call, &key),
-        Err(error) => Ok(refusal(error)),
+        Err(error) => Ok(refusal(&error)),
     }
 }
 
 fn told(alloc: Global, call: &str, key: &PrivateKey) -> Result<Answer> {
     match call {
-        "read" => Ok(Answer::Text(part_text(alloc, key)?)),
+        "read" => part_of(alloc, key),
         "again" => Answer::bytes(alloc, key.to_pkcs8()),
         _ => bail!("no such call"),
     }
 }
 
-// The public part as the text of a public key, or the kind alone.
-fn part_text(alloc: Global, key: &PrivateKey) -> Result<String> {
+// The public part as a public key is told, or the kind alone.
+fn part_of(alloc: Global, key: &PrivateKey) -> Result<Answer> {
     match key.public_part() {
-        Some(part) => kind_text(alloc, part),
-        None => bare_text(alloc, key.kind()),
+        Some(part) => parts_of(alloc, part),
+        None => kind_of(alloc, key.kind()),
     }
 }
 
-fn bare_text(alloc: Global, kind: &PrivateKeyKind) -> Result<String> {
+fn kind_of(alloc: Global, kind: &PrivateKeyKind) -> Result<Answer> {
     match kind {
-        PrivateKeyKind::Rsa => Ok(String::from_str(alloc, "RSA")?),
-        PrivateKeyKind::Ec { curve } => curve_text(alloc, curve),
-        PrivateKeyKind::Ed { algorithm } => Ok(String::from_str(alloc, name_of(*algorithm))?),
+        PrivateKeyKind::Rsa => Ok(Answer::Word("RSA")),
+        PrivateKeyKind::Ec { curve } => curve_of(alloc, curve),
+        PrivateKeyKind::Ed { algorithm } => Ok(Answer::Word(name_of(*algorithm))),
     }
 }

@@ -1,5 +1,5 @@
 // Public keys.
-use crate::damage;
+use crate::damage::{self, Half};
 use anyhow::{Result, bail};
 use picky_asn1_bits::IntegerAsn1;
 use picky_contract::Bytes;
@@ -7,19 +7,19 @@ use picky_key_der::{
     EcCurve, EdAlgorithm, KeyError, KeyFamily, NamedEcCurve, PublicKey, PublicKeyKind,
 };
 use rows::{Answer, Words};
-use std::alloc::Global;
+use std::alloc::{AllocError, Global};
 
 pub fn answer(alloc: Global, call: &str, words: &mut Words<'_>) -> Result<Answer> {
     match call {
-        "point" => point(alloc, words.next(), words),
+        "point" => point(alloc, words),
         "rsa" => rsa(alloc, words),
-        "damaged" => damage::public(alloc, &words.bytes(alloc)?),
-        "edwards" => edwards(alloc, words.next(), words.bytes(alloc)?),
-        _ => of_read(alloc, call, &words.bytes(alloc)?),
+        "damaged" => damage::answer(alloc, Half::Public, words),
+        "edwards" => edwards(alloc, words),
+        _ => of_read(alloc, call, words),
     }
 }
 
-pub fn refusal(error: KeyError) -> Answer {
+pub fn refusal(error: &KeyError) -> Answer {
     match error {
         KeyError::Der(_) => Answer::Word("Der"),
         KeyError::UnsupportedAlgorithm { .. } => Answer::Word("UnsupportedAlgorithm"),
@@ -31,12 +31,16 @@ pub fn refusal(error: KeyError) -> Answer {
     }
 }
 
-pub fn curve_text(alloc: Global, curve: &NamedEcCurve) -> Result<String> {
+fn text(text: Result<String, AllocError>) -> Result<Answer> {
+    Ok(Answer::Text(text?))
+}
+
+pub fn curve_of(alloc: Global, curve: &NamedEcCurve) -> Result<Answer> {
     match curve {
-        NamedEcCurve::Known(EcCurve::NistP256) => Ok(String::from_str(alloc, "P-256")?),
-        NamedEcCurve::Known(EcCurve::NistP384) => Ok(String::from_str(alloc, "P-384")?),
-        NamedEcCurve::Known(EcCurve::NistP521) => Ok(String::from_str(alloc, "P-521")?),
-        NamedEcCurve::Unsupported(oid) => Ok(oid.to_text(alloc)?),
+        NamedEcCurve::Known(EcCurve::NistP256) => Ok(Answer::Word("P-256")),
+        NamedEcCurve::Known(EcCurve::NistP384) => Ok(Answer::Word("P-384")),
+        NamedEcCurve::Known(EcCurve::NistP521) => Ok(Answer::Word("P-521")),
+        NamedEcCurve::Unsupported(oid) => text(oid.to_text(alloc)),
     }
 }
 
@@ -47,25 +51,36 @@ pub fn name_of(algorithm: EdAlgorithm) -> &'static str {
     }
 }
 
-pub fn kind_text(alloc: Global, key: &PublicKey) -> Result<String> {
+// An answer, and bytes behind it.
+fn with_bytes(alloc: Global, first: Result<Answer>, bytes: &[u8]) -> Result<Answer> {
+    Answer::pair(alloc, first?, Answer::bytes(alloc, bytes)?)
+}
+
+fn numbers(alloc: Global, modulus: &IntegerAsn1, exponent: &IntegerAsn1) -> Result<Answer> {
+    let first = with_bytes(
+        alloc,
+        Ok(Answer::Word("RSA")),
+        modulus.as_unsigned_bytes_be(),
+    );
+    with_bytes(alloc, first, exponent.as_unsigned_bytes_be())
+}
+
+/// What the key is.
+pub fn parts_of(alloc: Global, key: &PublicKey) -> Result<Answer> {
     match key.kind() {
         PublicKeyKind::Rsa {
             modulus,
             public_exponent,
-        } => {
-            let modulus = hex::encode(alloc, modulus.as_unsigned_bytes_be())?;
-            let exponent = hex::encode(alloc, public_exponent.as_unsigned_bytes_be())?;
-            Ok(format!(in alloc; "RSA {modulus} {exponent}")?)
-        }
+        } => numbers(alloc, modulus, public_exponent),
         PublicKeyKind::Ec { curve, point } => {
-            let name = curve_text(alloc, curve)?;
-            let point = hex::encode(alloc, point.as_slice())?;
-            Ok(format!(in alloc; "{name} {point}")?)
+            with_bytes(alloc, curve_of(alloc, curve), point.as_slice())
         }
         PublicKeyKind::Ed { algorithm, bytes } => {
-            let name = name_of(*algorithm);
-            let bytes = hex::encode(alloc, bytes.as_slice())?;
-            Ok(format!(in alloc; "{name} {bytes}")?)
+            with_bytes(
+                alloc,
+                Ok(Answer::Word(name_of(*algorithm))),
+                bytes.as_slice(),
+            )
         }
     }
 }
@@ -79,58 +94,87 @@ fn family_word(family: KeyFamily) -> &'static str {
     }
 }
 
-fn of_read(alloc: Global, call: &str, bytes: &[u8]) -> Result<Answer> {
-    match PublicKey::from_der(alloc, bytes) {
+/// The key that the bytes spell.
+pub fn key_in(alloc: Global, bytes: &[u8]) -> Result<PublicKey, KeyError> {
+    PublicKey::from_der(alloc, bytes)
+}
+
+/// What the key is written as.
+pub fn der_of(alloc: Global, key: &PublicKey) -> Result<Vec<u8>, KeyError> {
+    key.to_der(alloc)
+}
+
+fn of_read(alloc: Global, call: &str, words: &mut Words<'_>) -> Result<Answer> {
+    match key_in(alloc, &words.bytes(alloc)?) {
         Ok(key) => told(alloc, call, &key),
-        Err(error) => Ok(refusal(error)),
+        Err(error) => Ok(refusal(&error)),
     }
 }
 
 fn told(alloc: Global, call: &str, key: &PublicKey) -> Result<Answer> {
     match call {
-        "read" => Ok(Answer::Text(kind_text(alloc, key)?)),
+        "read" => parts_of(alloc, key),
         "again" => written(alloc, key),
         "family" => Ok(Answer::Word(family_word(key.family()))),
         _ => bail!("no such call"),
     }
 }
 
-fn written(alloc: Global, key: &PublicKey) -> Result<Answer> {
-    match key.to_der(alloc) {
+/// What the key is written as, or the refusal.
+pub fn written(alloc: Global, key: &PublicKey) -> Result<Answer> {
+    match der_of(alloc, key) {
         Ok(bytes) => Answer::bytes(alloc, &bytes),
-        Err(error) => Ok(refusal(error)),
+        Err(error) => Ok(refusal(&error)),
     }
 }
 
-fn point(alloc: Global, name: &str, words: &mut Words<'_>) -> Result<Answer> {
-    let curve = match name {
-        "P-256" => EcCurve::NistP256,
-        "P-384" => EcCurve::NistP384,
-        "P-521" => EcCurve::NistP521,
+// What a key that is made is written as, or the refusal.
+fn made(alloc: Global, key: Result<PublicKey, KeyError>) -> Result<Answer> {
+    match key {
+        Ok(key) => written(alloc, &key),
+        Err(error) => Ok(refusal(&error)),
+    }
+}
+
+fn curve_named(name: &str) -> Result<EcCurve> {
+    match name {
+        "P-256" => Ok(EcCurve::NistP256),
+        "P-384" => Ok(EcCurve::NistP384),
+        "P-521" => Ok(EcCurve::NistP521),
         _ => bail!("no such curve"),
-    };
+    }
+}
+
+fn point(alloc: Global, words: &mut Words<'_>) -> Result<Answer> {
+    let curve = curve_named(words.next())?;
     let x = words.bytes(alloc)?;
     let y = words.bytes(alloc)?;
-    match PublicKey::from_ec_components(alloc, curve, &x, &y) {
-        Ok(key) => written(alloc, &key),
-        Err(error) => Ok(refusal(error)),
-    }
+    made(alloc, PublicKey::from_ec_components(alloc, curve, &x, &y))
+}
+
+fn number(alloc: Global, words: &mut Words<'_>) -> Result<IntegerAsn1> {
+    Ok(IntegerAsn1(Bytes::new(words.bytes(alloc)?)))
 }
 
 fn rsa(alloc: Global, words: &mut Words<'_>) -> Result<Answer> {
-    let modulus = IntegerAsn1(Bytes::new(words.bytes(alloc)?));
-    let exponent = IntegerAsn1(Bytes::new(words.bytes(alloc)?));
+    let modulus = number(alloc, words)?;
+    let exponent = number(alloc, words)?;
     written(alloc, &PublicKey::from_rsa_components(modulus, exponent))
 }
 
-fn edwards(alloc: Global, name: &str, bytes: Vec<u8>) -> Result<Answer> {
-    let algorithm = match name {
-        "Ed25519" => EdAlgorithm::Ed25519,
-        "X25519" => EdAlgorithm::X25519,
+fn algorithm_named(name: &str) -> Result<EdAlgorithm> {
+    match name {
+        "Ed25519" => Ok(EdAlgorithm::Ed25519),
+        "X25519" => Ok(EdAlgorithm::X25519),
         _ => bail!("no such algorithm"),
-    };
-    match PublicKey::from_ed_encoded_components(algorithm, bytes) {
-        Ok(key) => written(alloc, &key),
-        Err(error) => Ok(refusal(error)),
     }
+}
+
+fn edwards(alloc: Global, words: &mut Words<'_>) -> Result<Answer> {
+    let algorithm = algorithm_named(words.next())?;
+    let bytes = words.bytes(alloc)?;
+    made(
+        alloc,
+        PublicKey::from_ed_encoded_components(algorithm, bytes),
+    )
 }

@@ -1,10 +1,12 @@
 // What a records document says. RECORDS is the document, in which `\n` is LF; it stands last.
+use crate::public::written;
+use crate::{private, public};
 use anyhow::{Result, bail};
 use picky_key::{
-    HashAlgorithm, KeyProvider, PrivateKey, ProviderFault, PublicKey, SignatureAlgorithm,
-    WrapScheme,
+    Ephemeral, HashAlgorithm, KeyProvider, PrivateKey, ProviderFault, PublicKey,
+    SignatureAlgorithm, WrapScheme,
 };
-use picky_records::Recorded;
+use picky_records::{RecordFault, Recorded};
 use rows::{Answer, Words};
 use std::alloc::Global;
 
@@ -13,7 +15,7 @@ pub fn answer(alloc: Global, call: &str, words: &mut Words<'_>) -> Result<Answer
         "read" => read(alloc, words),
         "verify" => verify(alloc, words),
         "sign" => sign(alloc, words),
-        "public" => public(alloc, words),
+        "public" => public_key(alloc, words),
         "unwrap" => unwrap(alloc, words),
         "wrap" => wrap(alloc, words),
         "agree" => agree(alloc, words),
@@ -22,20 +24,23 @@ pub fn answer(alloc: Global, call: &str, words: &mut Words<'_>) -> Result<Answer
     }
 }
 
+fn records_in(alloc: Global, text: &str) -> Result<Recorded, RecordFault> {
+    Recorded::read(alloc, text)
+}
+
 /// The records of the rest of the words.
 pub fn records_of(alloc: Global, words: &mut Words<'_>) -> Result<Recorded> {
-    let text = words.lines(alloc)?;
-    Ok(Recorded::read(alloc, &text)?)
+    Ok(records_in(alloc, &words.lines(alloc)?)?)
 }
 
 /// The public key of the next word.
 pub fn public_of(alloc: Global, words: &mut Words<'_>) -> Result<PublicKey> {
-    Ok(PublicKey::from_der(alloc, &words.bytes(alloc)?)?)
+    Ok(public::key_in(alloc, &words.bytes(alloc)?)?)
 }
 
 /// The private key of the next word.
 pub fn private_of(alloc: Global, words: &mut Words<'_>) -> Result<PrivateKey> {
-    Ok(PrivateKey::from_pkcs8(alloc, &words.bytes(alloc)?)?)
+    Ok(private::key_in(alloc, &words.bytes(alloc)?)?)
 }
 
 /// The algorithm of a name.
@@ -59,7 +64,7 @@ pub fn scheme_of(name: &str) -> Result<WrapScheme> {
     }
 }
 
-// What a provider answers, if anything.
+// The bytes that a provider answers, if any.
 fn found(alloc: Global, answer: Result<Option<Vec<u8>>, ProviderFault>) -> Result<Answer> {
     match answer {
         Ok(Some(bytes)) => Answer::bytes(alloc, &bytes),
@@ -68,9 +73,39 @@ fn found(alloc: Global, answer: Result<Option<Vec<u8>>, ProviderFault>) -> Resul
     }
 }
 
+// The public key that a provider answers, if any.
+fn known(alloc: Global, answer: Result<Option<PublicKey>, ProviderFault>) -> Result<Answer> {
+    match answer {
+        Ok(Some(key)) => written(alloc, &key),
+        Ok(None) => Ok(Answer::Word("none")),
+        Err(_) => bail!("out of memory"),
+    }
+}
+
+fn both(alloc: Global, made: &Ephemeral) -> Result<Answer> {
+    let epk = written(alloc, &made.epk)?;
+    Answer::pair(alloc, epk, Answer::bytes(alloc, &made.secret)?)
+}
+
+// The ephemeral key and the secret that a provider answers, if any.
+fn shared(alloc: Global, answer: Result<Option<Ephemeral>, ProviderFault>) -> Result<Answer> {
+    match answer {
+        Ok(Some(made)) => both(alloc, &made),
+        Ok(None) => Ok(Answer::Word("none")),
+        Err(_) => bail!("out of memory"),
+    }
+}
+
+/// Whether a provider answers yes.
+pub fn truth(answer: Result<bool, ProviderFault>) -> Result<Answer> {
+    match answer {
+        Ok(holds) => Ok(Answer::Truth(holds)),
+        Err(_) => bail!("out of memory"),
+    }
+}
+
 fn read(alloc: Global, words: &mut Words<'_>) -> Result<Answer> {
-    let text = words.lines(alloc)?;
-    match Recorded::read(alloc, &text) {
+    match records_in(alloc, &words.lines(alloc)?) {
         Ok(_) => Ok(Answer::Word("Ok")),
         Err(error) => Answer::debug(alloc, &error),
     }
@@ -82,10 +117,7 @@ fn verify(alloc: Global, words: &mut Words<'_>) -> Result<Answer> {
     let message = words.bytes(alloc)?;
     let signature = words.bytes(alloc)?;
     let records = records_of(alloc, words)?;
-    match records.verify(alloc, &key, algorithm, &message, &signature) {
-        Ok(holds) => Ok(Answer::Truth(holds)),
-        Err(_) => bail!("out of memory"),
-    }
+    truth(records.verify(alloc, &key, algorithm, &message, &signature))
 }
 
 fn sign(alloc: Global, words: &mut Words<'_>) -> Result<Answer> {
@@ -96,14 +128,10 @@ fn sign(alloc: Global, words: &mut Words<'_>) -> Result<Answer> {
     found(alloc, records.sign(alloc, &key, algorithm, &message))
 }
 
-fn public(alloc: Global, words: &mut Words<'_>) -> Result<Answer> {
+fn public_key(alloc: Global, words: &mut Words<'_>) -> Result<Answer> {
     let key = private_of(alloc, words)?;
     let records = records_of(alloc, words)?;
-    match records.public_key_of(alloc, &key) {
-        Ok(Some(public)) => Answer::bytes(alloc, &public.to_der(alloc)?),
-        Ok(None) => Ok(Answer::Word("none")),
-        Err(_) => bail!("out of memory"),
-    }
+    known(alloc, records.public_key_of(alloc, &key))
 }
 
 fn unwrap(alloc: Global, words: &mut Words<'_>) -> Result<Answer> {
@@ -135,12 +163,5 @@ fn agree(alloc: Global, words: &mut Words<'_>) -> Result<Answer> {
 fn ephemeral(alloc: Global, words: &mut Words<'_>) -> Result<Answer> {
     let receiver = public_of(alloc, words)?;
     let records = records_of(alloc, words)?;
-    match records.ephemeral(alloc, &receiver, &[7; 32]) {
-        Ok(Some(made)) => {
-            let epk = Answer::bytes(alloc, &made.epk.to_der(alloc)?)?;
-            Answer::pair(alloc, epk, Answer::bytes(alloc, &made.secret)?)
-        }
-        Ok(None) => Ok(Answer::Word("none")),
-        Err(_) => bail!("out of memory"),
-    }
+    shared(alloc, records.ephemeral(alloc, &receiver, &[7; 32]))
 }

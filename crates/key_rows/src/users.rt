@@ -1,7 +1,6 @@
 // Callers of a provider who find again what they made, by the laws of every provider, over the records of a document.
-use crate::records::{algorithm_of, private_of, records_of, scheme_of};
+use crate::records::{algorithm_of, private_of, records_of, scheme_of, truth};
 use anyhow::{Result, bail};
-use picky_key::ProviderFault;
 use picky_key::laws::{signed_is_verified, wrapped_is_unwrapped};
 use rows::{Answer, Words};
 use std::alloc::Global;
@@ -11,13 +10,6 @@ pub fn answer(alloc: Global, call: &str, words: &mut Words<'_>) -> Result<Answer
         "signed" => signed(alloc, words),
         "wrapped" => wrapped(alloc, words),
         _ => bail!("no such call"),
-    }
-}
-
-fn truth(answer: Result<bool, ProviderFault>) -> Result<Answer> {
-    match answer {
-        Ok(same) => Ok(Answer::Truth(same)),
-        Err(_) => bail!("out of memory"),
     }
 }
 

@@ -9,13 +9,13 @@
 //     build.KIND PKCS8 HEAD STRING STEPS RECORDS    what each `build` gives, a ` | ` between two: the refusal as it is, or the text that is
 //                                                   printed, whether that reads back as the same value, and what a verifier says
 //                                                   of it, at the moment of its `created`, over what the builder was given
-use crate::keys::{private_of, public_of, records_of};
+use crate::keys::{found, private_of, public_of, records_of};
 use crate::printed::reads_back;
 use anyhow::{Result, bail};
 use http::request::Request;
 use picky_http::{
-    HttpRequest, HttpSignature, HttpSignatureBuilder, HttpSignatureError, NoRequest, RequestHead,
-    read_head,
+    HttpRequest, HttpSignature, HttpSignatureBuilder, HttpSignatureError, HttpSignatureVerifier,
+    NoRequest, RequestHead, read_head,
 };
 use picky_key::{HashAlgorithm, PrivateKey, PublicKey, SignatureAlgorithm};
 use picky_records::Recorded;
@@ -23,25 +23,72 @@ use rows::{Answer, Words};
 use std::alloc::Global;
 
 pub(crate) fn answer(alloc: Global, kind: &str, words: &mut Words<'_>) -> Result<Answer> {
-    let key = private_of(alloc, words)?;
-    let bytes = words.bytes(alloc)?;
-    if kind == "none" {
-        return over(alloc, &NoRequest, &key, words);
-    }
-    let Ok(head) = read_head(alloc, &bytes) else {
-        bail!("no such head");
-    };
     match kind {
-        "head" => over(alloc, &head, &key, words),
-        "parts" => over(
-            alloc,
-            &request_of(alloc, &head)?.into_parts().0,
-            &key,
-            words,
-        ),
-        "request" => over(alloc, &request_of(alloc, &head)?, &key, words),
+        "none" => over_none(alloc, words),
+        _ => over_bytes(alloc, kind, words),
+    }
+}
+
+fn over_none(alloc: Global, words: &mut Words<'_>) -> Result<Answer> {
+    let key = private_of(alloc, words)?;
+    let _head = words.next();
+    over(alloc, &NoRequest, &key, words)
+}
+
+fn over_bytes(alloc: Global, kind: &str, words: &mut Words<'_>) -> Result<Answer> {
+    let key = private_of(alloc, words)?;
+    let head = head_of(alloc, words)?;
+    over_kind(alloc, kind, &head, &key, words)
+}
+
+// The request head that the bytes of the next word begin with.
+fn head_of(alloc: Global, words: &mut Words<'_>) -> Result<RequestHead> {
+    let bytes = words.bytes(alloc)?;
+    found(read_head(alloc, &bytes).ok(), "no such head")
+}
+
+fn over_kind(
+    alloc: Global,
+    kind: &str,
+    head: &RequestHead,
+    key: &PrivateKey,
+    words: &mut Words<'_>,
+) -> Result<Answer> {
+    match kind {
+        "head" => over_head(alloc, head, key, words),
+        "parts" => over_parts(alloc, head, key, words),
+        "request" => over_request(alloc, head, key, words),
         _ => bail!("no such kind"),
     }
+}
+
+fn over_head(
+    alloc: Global,
+    head: &RequestHead,
+    key: &PrivateKey,
+    words: &mut Words<'_>,
+) -> Result<Answer> {
+    over(alloc, head, key, words)
+}
+
+fn over_parts(
+    alloc: Global,
+    head: &RequestHead,
+    key: &PrivateKey,
+    words: &mut Words<'_>,
+) -> Result<Answer> {
+    let request = request_of(alloc, head)?;
+    over(alloc, &request.into_parts().0, key, words)
+}
+
+fn over_request(
+    alloc: Global,
+    head: &RequestHead,
+    key: &PrivateKey,
+    words: &mut Words<'_>,
+) -> Result<Answer> {
+    let request = request_of(alloc, head)?;
+    over(alloc, &request, key, words)
 }
 
 // The head as a request of the crate `http`.
@@ -52,10 +99,7 @@ fn request_of(alloc: Global, head: &RequestHead) -> Result<Request<()>> {
     for field in &head.fields {
         builder = builder.header(field.name.as_str(), field.value.as_slice());
     }
-    match builder.body(()) {
-        Ok(request) => Ok(request),
-        Err(_) => bail!("no such request"),
-    }
+    found(builder.body(()).ok(), "no such request")
 }
 
 fn algorithm_of(name: &str) -> Result<SignatureAlgorithm> {
@@ -70,7 +114,7 @@ fn algorithm_of(name: &str) -> Result<SignatureAlgorithm> {
 }
 
 // What a row is about.
-#[derive(Clone, Copy)]
+#[derive(Drop)]
 struct Given<'a, Q> {
     key: &'a PrivateKey,
     public: &'a PublicKey,
@@ -95,36 +139,55 @@ fn over<Q: HttpRequest>(
     let string = words.text(alloc)?;
     let steps = words.next();
     let records = records_of(alloc, words)?;
-    let public = public_of(alloc, &records, key)?;
+    over_string(alloc, request, key, &string, steps, &records)
+}
+
+fn over_string<Q: HttpRequest>(
+    alloc: Global,
+    request: &Q,
+    key: &PrivateKey,
+    string: &str,
+    steps: &str,
+    records: &Recorded,
+) -> Result<Answer> {
+    let public = public_of(alloc, records, key)?;
     let given = Given {
         key,
         public: &public,
         request,
-        string: &string,
-        records: &records,
+        string,
+        records,
     };
-    Ok(Answer::Text(told(alloc, &given, steps)?))
+    told(alloc, &given, steps)
 }
 
 // What the steps give.
-fn told<Q: HttpRequest>(alloc: Global, given: &Given<'_, Q>, steps: &str) -> Result<String> {
-    let mut text = String::new(alloc);
+fn told<Q: HttpRequest>(alloc: Global, given: &Given<'_, Q>, steps: &str) -> Result<Answer> {
     let mut builder = HttpSignatureBuilder::new(alloc);
     let mut set = Set {
         algorithm: SignatureAlgorithm::Ed25519,
         is_given: false,
     };
+    let mut told = None;
     for step in steps.split(',') {
         if step == "build" {
-            if !text.is_empty() {
-                text.push_str(" | ")?;
-            }
-            text.push_str(&built(alloc, given, set, builder.build(given.records))?)?;
+            let answer = built(alloc, given, set, builder.build(given.records))?;
+            told = Some(joined(alloc, told, answer)?);
         } else {
             set = stepped(&mut builder, given, set, step)?;
         }
     }
-    Ok(text)
+    found(told, "nothing is built")
+}
+
+fn joined(alloc: Global, told: Option<Answer>, answer: Answer) -> Result<Answer> {
+    match told {
+        Some(told) => {
+            let front = Answer::pair(alloc, told, Answer::Word("|"))?;
+            Answer::pair(alloc, front, answer)
+        }
+        None => Ok(answer),
+    }
 }
 
 fn stepped<'a, Q: HttpRequest>(
@@ -134,36 +197,79 @@ fn stepped<'a, Q: HttpRequest>(
     step: &str,
 ) -> Result<Set> {
     let (word, value) = step.split_once('=').unwrap_or((step, ""));
-    let mut set = set;
     match word {
-        "key" => builder.key_id(value)?,
-        "created" => builder.created(number(value)?)?,
-        "expires" => builder.expires(number(value)?)?,
-        "target" => builder.request_target()?,
-        "name" => builder.http_header(value)?,
-        "legacy" => builder.legacy(),
-        "method" => {
-            set.algorithm = algorithm_of(value)?;
-            builder.signature_method(given.key, set.algorithm);
-        }
-        "asked" => {
-            set.is_given = false;
-            builder.generate_signing_string_using_http_request(given.request);
-        }
-        "given" => {
-            set.is_given = true;
-            builder.pre_generated_signing_string(given.string);
-        }
+        "method" => with_method(builder, given, set, value),
+        "asked" => Ok(ask(builder, given.request, set)),
+        "given" => Ok(give(builder, given.string, set)),
+        "legacy" => Ok(flagged(builder, set)),
+        _ => covered(builder, word, value, set),
+    }
+}
+
+fn ask<'a, Q: HttpRequest>(
+    builder: &mut HttpSignatureBuilder<'a, Q>,
+    request: &'a Q,
+    set: Set,
+) -> Set {
+    builder.generate_signing_string_using_http_request(request);
+    Set {
+        is_given: false,
+        ..set
+    }
+}
+
+fn give<'a, Q: HttpRequest>(
+    builder: &mut HttpSignatureBuilder<'a, Q>,
+    string: &'a str,
+    set: Set,
+) -> Set {
+    builder.pre_generated_signing_string(string);
+    Set {
+        is_given: true,
+        ..set
+    }
+}
+
+fn flagged<Q: HttpRequest>(builder: &mut HttpSignatureBuilder<'_, Q>, set: Set) -> Set {
+    builder.legacy();
+    set
+}
+
+fn with_method<'a, Q: HttpRequest>(
+    builder: &mut HttpSignatureBuilder<'a, Q>,
+    given: &Given<'a, Q>,
+    set: Set,
+    value: &str,
+) -> Result<Set> {
+    let algorithm = algorithm_of(value)?;
+    builder.signature_method(given.key, algorithm);
+    Ok(Set { algorithm, ..set })
+}
+
+// The setters that take memory.
+fn covered<Q: HttpRequest>(
+    builder: &mut HttpSignatureBuilder<'_, Q>,
+    word: &str,
+    value: &str,
+    set: Set,
+) -> Result<Set> {
+    match word {
+        "key" => kept(builder.key_id(value), set),
+        "created" => kept(builder.created(number(value)?), set),
+        "expires" => kept(builder.expires(number(value)?), set),
+        "target" => kept(builder.request_target(), set),
+        "name" => kept(builder.http_header(value), set),
         _ => bail!("no such step"),
     }
+}
+
+fn kept(outcome: Result<(), HttpSignatureError>, set: Set) -> Result<Set> {
+    found(outcome.ok(), "out of memory")?;
     Ok(set)
 }
 
 fn number(text: &str) -> Result<u64> {
-    match text.parse::<u64>() {
-        Ok(number) => Ok(number),
-        Err(_) => bail!("no such second"),
-    }
+    found(text.parse::<u64>().ok(), "no such second")
 }
 
 // What `build` gave.
@@ -172,32 +278,83 @@ fn built<Q: HttpRequest>(
     given: &Given<'_, Q>,
     set: Set,
     signature: Result<HttpSignature, HttpSignatureError>,
-) -> Result<String> {
+) -> Result<Answer> {
     match signature {
-        Ok(signature) => {
-            let text = reads_back(alloc, &signature)?;
-            let verdict = verified(alloc, given, set, &signature)?;
-            Ok(format!(in alloc; "{text} {verdict}")?)
-        }
-        Err(error) => Ok(format!(in alloc; "{error:?}")?),
+        Ok(signature) => judged(alloc, given, set, &signature),
+        Err(error) => Answer::debug(alloc, &error),
     }
 }
 
+fn judged<Q: HttpRequest>(
+    alloc: Global,
+    given: &Given<'_, Q>,
+    set: Set,
+    signature: &HttpSignature,
+) -> Result<Answer> {
+    let text = reads_back(alloc, signature)?;
+    let verdict = verified(alloc, given, set, signature)?;
+    Answer::pair(alloc, text, verdict)
+}
+
+// What a verifier says of a signature, at the moment of its `created`.
 fn verified<Q: HttpRequest>(
     alloc: Global,
     given: &Given<'_, Q>,
     set: Set,
     signature: &HttpSignature,
 ) -> Result<Answer> {
+    let created = signature.created.unwrap_or(0);
+    let verifier = at(verifier_of(given, set, signature), created);
+    match set.is_given {
+        true => decided(alloc, of_string(verifier, given.string), given.records),
+        false => decided(alloc, of_request(verifier, given.request), given.records),
+    }
+}
+
+fn verifier_of<'a, Q: HttpRequest>(
+    given: &Given<'a, Q>,
+    set: Set,
+    signature: &'a HttpSignature,
+) -> HttpSignatureVerifier<'a, Q> {
     let mut verifier = signature.verifier();
     verifier.signature_method(given.public, set.algorithm);
-    verifier.now(signature.created.unwrap_or(0));
-    if set.is_given {
-        verifier.pre_generated_signing_string(given.string);
-    } else {
-        verifier.generate_signing_string_using_http_request(given.request);
-    }
-    match verifier.verify(alloc, given.records) {
+    verifier
+}
+
+fn at<Q: HttpRequest>(
+    mut verifier: HttpSignatureVerifier<'_, Q>,
+    moment: u64,
+) -> HttpSignatureVerifier<'_, Q> {
+    verifier.now(moment);
+    verifier
+}
+
+fn of_string<'a, Q: HttpRequest>(
+    mut verifier: HttpSignatureVerifier<'a, Q>,
+    string: &'a str,
+) -> HttpSignatureVerifier<'a, Q> {
+    verifier.pre_generated_signing_string(string);
+    verifier
+}
+
+fn of_request<'a, Q: HttpRequest>(
+    mut verifier: HttpSignatureVerifier<'a, Q>,
+    request: &'a Q,
+) -> HttpSignatureVerifier<'a, Q> {
+    verifier.generate_signing_string_using_http_request(request);
+    verifier
+}
+
+fn decided<Q: HttpRequest>(
+    alloc: Global,
+    mut verifier: HttpSignatureVerifier<'_, Q>,
+    records: &Recorded,
+) -> Result<Answer> {
+    verdict(alloc, verifier.verify(alloc, records))
+}
+
+fn verdict(alloc: Global, verdict: Result<(), HttpSignatureError>) -> Result<Answer> {
+    match verdict {
         Ok(()) => Ok(Answer::Word("Ok")),
         Err(error) => Answer::debug(alloc, &error),
     }

@@ -1,6 +1,6 @@
 // What bags hold, and parts of a store over bags of any kind, by the names of their types.
-use crate::value;
-use anyhow::{Result, bail};
+use crate::{bad_row, value};
+use anyhow::Result;
 use picky_asn1_wrapper::{Asn1SequenceOf, Asn1SetOf};
 use picky_asn1_x509::{
     CertificateBag, EncryptedKeyBag, Pkcs12Attribute, SafeContentsInfo, SecretBag,
@@ -17,6 +17,6 @@ pub fn answer(alloc: Global, name: &str, call: &str, words: &mut Words<'_>) -> R
         "secret" => value::<SecretBag>(alloc, call, words),
         "encrypted_key" => value::<EncryptedKeyBag>(alloc, call, words),
         "part" => value::<SafeContentsInfo<Asn1SequenceOf<Asn1RawDer>>>(alloc, call, words),
-        _ => bail!("no such type"),
+        _ => bad_row("no such type"),
     }
 }

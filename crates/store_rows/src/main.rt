@@ -17,7 +17,7 @@ mod bags;
 mod containers;
 mod safe_bags;
 
-use anyhow::{Result, bail};
+use anyhow::{Error, Result};
 use picky_asn1_tag::CopyIn;
 use picky_der::{DerError, DerRead, DerWrite, from_bytes, to_vec};
 use rows::{Answer, Calls, Words, answer_rows};
@@ -33,44 +33,76 @@ impl Calls for StoreCalls {
             "store" => algorithms::answer(alloc, call, words),
             "attribute" => attributes::answer(alloc, call, words),
             "bags" => safe_bags::answer(alloc, call, words),
-            _ => bail!("no such notion"),
+            _ => bad_row("no such notion"),
         }
     }
 }
 
+// The error of a row that is no call. It has no clause, so a caller knows nothing of the text.
+fn bad_row<T>(cause: &'static str) -> Result<T> {
+    Err(Error::msg(cause))
+}
+
+// The value that these bytes are. Without the clauses of `from_bytes`, which no caller needs and each would carry.
+fn value_of<T: DerRead + Drop>(alloc: Global, bytes: &[u8]) -> Result<T, DerError> {
+    from_bytes(alloc, bytes)
+}
+
+// What a value is written as, without the clauses of `to_vec`.
+fn encoding_of<T: DerWrite>(alloc: Global, value: &T) -> Result<Vec<u8>, DerError> {
+    to_vec(alloc, value)
+}
+
 // The fault by its name. Want of memory is no refusal: it is an error of the row.
 fn refusal(fault: DerError) -> Result<Answer> {
-    Ok(Answer::Word(match fault {
-        DerError::Truncated => "Truncated",
-        DerError::WrongTag { .. } => "WrongTag",
-        DerError::BadLength => "BadLength",
-        DerError::BadValue => "BadValue",
-        DerError::TrailingBytes => "TrailingBytes",
-        DerError::TooDeep => "TooDeep",
-        DerError::OutOfMemory => bail!("out of memory"),
-    }))
+    match fault {
+        DerError::Truncated => Ok(Answer::Word("Truncated")),
+        DerError::WrongTag { .. } => Ok(Answer::Word("WrongTag")),
+        DerError::BadLength => Ok(Answer::Word("BadLength")),
+        DerError::BadValue => Ok(Answer::Word("BadValue")),
+        DerError::TrailingBytes => Ok(Answer::Word("TrailingBytes")),
+        DerError::TooDeep => Ok(Answer::Word("TooDeep")),
+        DerError::OutOfMemory => bad_row("out of memory"),
+    }
 }
 
 fn written<T: CopyIn + DerWrite + Drop>(alloc: Global, value: &T) -> Result<Answer> {
-    match to_vec(alloc, &value.copy_in(alloc)?) {
+    let copy = value.copy_in(alloc)?;
+    match encoding_of(alloc, &copy) {
         Ok(bytes) => Answer::bytes(alloc, &bytes),
         Err(fault) => refusal(fault),
     }
 }
 
-// What stands in front of the first bracket or space.
-fn variant<T: Debug>(alloc: Global, value: &T) -> Result<Answer> {
-    let text = format!(in alloc; "{value:?}")?;
-    let (front, _) = text.split_once('(').unwrap_or((&text, ""));
-    let (name, _) = front.split_once(' ').unwrap_or((front, ""));
-    Answer::text(alloc, name)
+// What stands in front of the first of these characters, or all.
+fn in_front(text: &str, end: char) -> &str {
+    match text.split_once(end) {
+        Some((front, _)) => front,
+        None => text,
+    }
 }
 
-// What stands behind the last comma.
+// What stands behind the last comma, or all.
+fn behind_comma(text: &str) -> &str {
+    match text.rsplit_once(", ") {
+        Some((_, field)) => field,
+        None => text,
+    }
+}
+
+// What stands in front of the first bracket or space.
+fn variant<T: Debug>(alloc: Global, value: &T) -> Result<Answer> {
+    match Answer::debug(alloc, value)? {
+        Answer::Text(text) => Answer::text(alloc, in_front(in_front(&text, '('), ' ')),
+        answer => Ok(answer),
+    }
+}
+
 fn last<T: Debug>(alloc: Global, value: &T) -> Result<Answer> {
-    let text = format!(in alloc; "{value:?}")?;
-    let (_, field) = text.rsplit_once(", ").unwrap_or(("", &text));
-    Answer::text(alloc, field)
+    match Answer::debug(alloc, value)? {
+        Answer::Text(text) => Answer::text(alloc, behind_comma(&text)),
+        answer => Ok(answer),
+    }
 }
 
 // What a call gives of a value of this type.
@@ -79,15 +111,23 @@ fn value<T: CopyIn + DerRead + DerWrite + Debug + Drop>(
     call: &str,
     words: &mut Words<'_>,
 ) -> Result<Answer> {
-    let value: T = match from_bytes(alloc, &words.bytes(alloc)?) {
-        Ok(value) => value,
-        Err(fault) => return refusal(fault),
-    };
+    let bytes = words.bytes(alloc)?;
+    match value_of::<T>(alloc, &bytes) {
+        Ok(value) => of_value(alloc, call, &value),
+        Err(fault) => refusal(fault),
+    }
+}
+
+fn of_value<T: CopyIn + DerWrite + Debug + Drop>(
+    alloc: Global,
+    call: &str,
+    value: &T,
+) -> Result<Answer> {
     match call {
-        "again" => written(alloc, &value),
-        "variant" => variant(alloc, &value),
-        "last" => last(alloc, &value),
-        _ => bail!("no such call"),
+        "again" => written(alloc, value),
+        "variant" => variant(alloc, value),
+        "last" => last(alloc, value),
+        _ => bad_row("no such call"),
     }
 }
 

@@ -11,8 +11,9 @@
 //                                                `strict`, `lenient`, `nbf` (that alone required), `exp` (that alone looked at), at 100
 //     jwt.check_by CHECKS CLAIMS                 the same of claims that were read already
 //     jwt.decode KEY TEXT RECORDS                `Ok`, where the signature holds by a provider of these records, or the refusal
+use crate::found::{found, outcome, shown};
 use crate::signatures;
-use anyhow::{Context, Result, bail};
+use anyhow::{Result, bail};
 use picky_jose::{Jws, JwsAlg, JwsHeader, JwtDate, JwtSig, JwtValidator, no_check_validator};
 use picky_json::parse;
 use rows::{Answer, Words};
@@ -21,26 +22,27 @@ use std::alloc::Global;
 
 /// The seconds of the next word.
 pub(crate) fn seconds(words: &mut Words<'_>) -> Result<i64> {
-    i64::try_from(words.number()?)
-        .ok()
-        .context("no such second")
+    words.parsed::<i64>()
 }
 
 /// The date and the leeway of the next two words.
 pub(crate) fn date(words: &mut Words<'_>) -> Result<JwtDate> {
     let seconds = seconds(words)?;
-    let leeway = u16::try_from(words.number()?)
-        .ok()
-        .context("no such leeway")?;
+    let leeway = words.parsed::<u16>()?;
     Ok(JwtDate::new_with_leeway(seconds, leeway))
 }
 
 pub(crate) fn answer_of_date(alloc: Global, call: &str, words: &mut Words<'_>) -> Result<Answer> {
     match call {
-        "print" => Answer::display(alloc, &date(words)?),
-        "print_new" => Answer::display(alloc, &JwtDate::new(seconds(words)?)),
+        "print" => shown(alloc, date(words)),
+        "print_new" => shown(alloc, new_date(words)),
         _ => compared(call, words),
     }
+}
+
+fn new_date(words: &mut Words<'_>) -> Result<JwtDate> {
+    let seconds = seconds(words)?;
+    Ok(JwtDate::new(seconds))
 }
 
 fn compared(call: &str, words: &mut Words<'_>) -> Result<Answer> {
@@ -99,19 +101,23 @@ fn validate_by(alloc: Global, words: &mut Words<'_>) -> Result<Answer> {
 
 fn check_by(alloc: Global, words: &mut Words<'_>) -> Result<Answer> {
     let validator = validator(words.next())?;
-    let claims = parse(alloc, words.rest().as_bytes())?.context("no JSON")?;
-    match validator.check_dates(&claims) {
-        Ok(()) => Ok(Answer::Word("Ok")),
-        Err(error) => Answer::debug(alloc, &error),
-    }
+    let claims = tree(alloc, words.rest())?;
+    outcome(alloc, validator.check_dates(&claims))
+}
+
+fn tree(alloc: Global, text: &str) -> Result<Value> {
+    let tree = parse(alloc, text.as_bytes());
+    found(tree.unwrap_or(None), "no JSON")
 }
 
 fn validated(alloc: Global, validator: JwtValidator, words: &mut Words<'_>) -> Result<Answer> {
+    let token = token(alloc, words.rest())?;
+    outcome(alloc, token.validate::<Value>(alloc, &validator))
+}
+
+// The token with these claims, under a name that signs.
+fn token(alloc: Global, claims: &str) -> Result<JwtSig> {
+    let payload = claims.as_bytes().to_vec(alloc)?;
     let header = JwsHeader::new(alloc, JwsAlg::EdDSA);
-    let payload = words.rest().as_bytes().to_vec(alloc)?;
-    let token = JwtSig::from(Jws { header, payload });
-    match token.validate::<Value>(alloc, &validator) {
-        Ok(_) => Ok(Answer::Word("Ok")),
-        Err(error) => Answer::debug(alloc, &error),
-    }
+    Ok(JwtSig::from(Jws { header, payload }))
 }

@@ -3,6 +3,7 @@
 //     key.ed BYTES             `Ok`, or the refusal
 //     key.equals KEY KEY       whether both are equal
 //     key.copy_equals KEY      whether a copy is equal to it
+use crate::found::{found, outcome};
 use anyhow::{Result, bail};
 use picky_key::{EdAlgorithm, PublicKey};
 use rows::{Answer, Words};
@@ -11,7 +12,8 @@ use std::alloc::Global;
 /// The key of the next word.
 pub(crate) fn key(alloc: Global, words: &mut Words<'_>) -> Result<PublicKey> {
     let bytes = words.bytes(alloc)?;
-    Ok(PublicKey::from_ed_encoded_components(EdAlgorithm::Ed25519, bytes)?)
+    let key = PublicKey::from_ed_encoded_components(EdAlgorithm::Ed25519, bytes);
+    found(key.ok(), "no such key")
 }
 
 pub(crate) fn answer(alloc: Global, call: &str, words: &mut Words<'_>) -> Result<Answer> {
@@ -25,10 +27,8 @@ pub(crate) fn answer(alloc: Global, call: &str, words: &mut Words<'_>) -> Result
 
 fn ed(alloc: Global, words: &mut Words<'_>) -> Result<Answer> {
     let bytes = words.bytes(alloc)?;
-    match PublicKey::from_ed_encoded_components(EdAlgorithm::Ed25519, bytes) {
-        Ok(_) => Ok(Answer::Word("Ok")),
-        Err(error) => Answer::debug(alloc, &error),
-    }
+    let key = PublicKey::from_ed_encoded_components(EdAlgorithm::Ed25519, bytes);
+    outcome(alloc, key)
 }
 
 fn equals(alloc: Global, words: &mut Words<'_>) -> Result<Answer> {
@@ -39,6 +39,6 @@ fn equals(alloc: Global, words: &mut Words<'_>) -> Result<Answer> {
 
 fn copy_equals(alloc: Global, words: &mut Words<'_>) -> Result<Answer> {
     let key = key(alloc, words)?;
-    let copy = key.clone(alloc)?;
+    let copy = found(key.clone(alloc).ok(), "no memory")?;
     Ok(Answer::Truth(copy == key))
 }

@@ -3,6 +3,7 @@
 
 mod base64;
 mod dates;
+mod found;
 mod header_texts;
 mod json;
 mod keys;

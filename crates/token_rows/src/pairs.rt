@@ -1,7 +1,8 @@
 // Tokens that are verified by the record of one ECDSA signature, of the P-256 key whose coordinates are zero.
+use crate::found::{found, outcome};
+use crate::header_texts::{recorded_as, url_text, url_word};
 use crate::signatures::{self, token};
-use anyhow::{Context, Result};
-use picky_base64::{Form, encode};
+use anyhow::Result;
 use picky_key::{EcCurve, PublicKey};
 use picky_records::Recorded;
 use rows::{Answer, Words};
@@ -9,17 +10,18 @@ use std::alloc::Global;
 
 // The provider that recorded the pair of the next word, under ECDSA with SHA-256, for the text before the token's last dot.
 fn provider(alloc: Global, key: &PublicKey, text: &str, words: &mut Words<'_>) -> Result<Recorded> {
-    let (signed, _) = text.rsplit_once('.').context("no dot")?;
-    let spki = encode(alloc, Form::Url, &key.to_der(alloc)?)?;
-    let message = encode(alloc, Form::Url, signed.as_bytes())?;
-    let pair = encode(alloc, Form::Url, &words.bytes(alloc)?)?;
-    let line = format!(in alloc; "sig ecdsa-sha256 {spki} {message} {pair}\n")?;
-    Ok(Recorded::read(alloc, &line)?)
+    let (signed, _) = text.rsplit_once('.').unwrap_or((text, ""));
+    let der = found(key.to_der(alloc).ok(), "no memory")?;
+    let spki = url_text(alloc, &der)?;
+    let message = url_text(alloc, signed.as_bytes())?;
+    let pair = url_word(alloc, words)?;
+    recorded_as(alloc, "ecdsa-sha256", &spki, &message, &pair)
 }
 
 // The P-256 key whose coordinates are zero.
 fn key(alloc: Global) -> Result<PublicKey> {
-    Ok(PublicKey::from_ec_components(alloc, EcCurve::NistP256, &[], &[])?)
+    let key = PublicKey::from_ec_components(alloc, EcCurve::NistP256, &[], &[]);
+    found(key.ok(), "no such key")
 }
 
 pub(crate) fn verify(alloc: Global, words: &mut Words<'_>) -> Result<Answer> {
@@ -27,8 +29,6 @@ pub(crate) fn verify(alloc: Global, words: &mut Words<'_>) -> Result<Answer> {
     let text = words.next();
     let key = key(alloc)?;
     let provider = provider(alloc, &key, text, words)?;
-    match token(alloc, alg, text)?.verify(alloc, &provider, &key) {
-        Ok(_) => Ok(Answer::Word("Ok")),
-        Err(error) => Answer::debug(alloc, &error),
-    }
+    let token = token(alloc, alg, text)?;
+    outcome(alloc, token.verify(alloc, &provider, &key))
 }

@@ -2,6 +2,7 @@
 //
 //     records.read RECORDS                                    `Ok`, or the refusal
 //     records.verify KEY ALGORITHM MESSAGE BYTES RECORDS      whether they record it; MESSAGE is a word as it stands
+use crate::found::{found, outcome};
 use crate::keys::key;
 use anyhow::{Result, bail};
 use picky_key::{HashAlgorithm, KeyProvider, SignatureAlgorithm};
@@ -12,7 +13,7 @@ use std::alloc::Global;
 /// The records of the rest of the words.
 pub(crate) fn records(alloc: Global, words: &mut Words<'_>) -> Result<Recorded> {
     let text = words.lines(alloc)?;
-    Ok(Recorded::read(alloc, &text)?)
+    found(Recorded::read(alloc, &text).ok(), "no such records")
 }
 
 fn algorithm(name: &str) -> Result<SignatureAlgorithm> {
@@ -33,10 +34,7 @@ pub(crate) fn answer(alloc: Global, call: &str, words: &mut Words<'_>) -> Result
 
 fn read(alloc: Global, words: &mut Words<'_>) -> Result<Answer> {
     let text = words.lines(alloc)?;
-    match Recorded::read(alloc, &text) {
-        Ok(_) => Ok(Answer::Word("Ok")),
-        Err(error) => Answer::debug(alloc, &error),
-    }
+    outcome(alloc, Recorded::read(alloc, &text))
 }
 
 fn verify(alloc: Global, words: &mut Words<'_>) -> Result<Answer> {
@@ -45,8 +43,8 @@ fn verify(alloc: Global, words: &mut Words<'_>) -> Result<Answer> {
     let message = words.next().as_bytes();
     let signature = words.bytes(alloc)?;
     let records = records(alloc, words)?;
-    match records.verify(alloc, &key, algorithm, message, &signature) {
-        Ok(holds) => Ok(Answer::Truth(holds)),
-        Err(_) => bail!("out of memory"),
-    }
+    let holds = records
+        .verify(alloc, &key, algorithm, message, &signature)
+        .ok();
+    Ok(Answer::Truth(found(holds, "no memory")?))
 }

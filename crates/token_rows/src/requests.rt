@@ -4,30 +4,74 @@
 //     request.line KIND BYTES           the method and the target
 //     request.values KIND BYTES NAME    the values of the header
 //     request.verify KIND BYTES MOMENT LEEWAY MESSAGE SIGNATURE TEXT    as `http.verify`
-use crate::header_texts::{key, moment, over, recorded, signature};
+use crate::found::found;
+use crate::header_texts::{asked_of, head_of, moment, over};
 use anyhow::{Result, bail};
 use http::request::Request;
-use picky_http::{HttpRequest, HttpRequestError, NoRequest, RequestHead, read_head};
+use picky_http::{HttpRequest, HttpRequestError, NoRequest, RequestHead};
 use rows::{Answer, Words};
 use std::alloc::Global;
 use std::borrow::CowStr;
 
 pub(crate) fn answer(alloc: Global, call: &str, words: &mut Words<'_>) -> Result<Answer> {
-    let kind = words.next();
-    let bytes = words.bytes(alloc)?;
-    if kind == "none" {
-        return ask(alloc, &NoRequest, call, words);
+    match words.next() {
+        "none" => ask_none(alloc, call, words),
+        kind => ask_bytes(alloc, kind, call, words),
     }
-    let head = match read_head(alloc, &bytes) {
-        Ok(head) => head,
-        Err(_) => bail!("no such head"),
-    };
+}
+
+fn ask_none(alloc: Global, call: &str, words: &mut Words<'_>) -> Result<Answer> {
+    let _bytes = words.next();
+    ask(alloc, &NoRequest, call, words)
+}
+
+fn ask_bytes(alloc: Global, kind: &str, call: &str, words: &mut Words<'_>) -> Result<Answer> {
+    let head = head_of(alloc, words)?;
+    ask_kind(alloc, kind, &head, call, words)
+}
+
+fn ask_kind(
+    alloc: Global,
+    kind: &str,
+    head: &RequestHead,
+    call: &str,
+    words: &mut Words<'_>,
+) -> Result<Answer> {
     match kind {
-        "head" => ask(alloc, &head, call, words),
-        "parts" => ask(alloc, &request(alloc, &head)?.into_parts().0, call, words),
-        "request" => ask(alloc, &request(alloc, &head)?, call, words),
+        "head" => ask_head(alloc, head, call, words),
+        "parts" => ask_parts(alloc, head, call, words),
+        "request" => ask_request(alloc, head, call, words),
         _ => bail!("no such kind"),
     }
+}
+
+fn ask_head(
+    alloc: Global,
+    head: &RequestHead,
+    call: &str,
+    words: &mut Words<'_>,
+) -> Result<Answer> {
+    ask(alloc, head, call, words)
+}
+
+fn ask_parts(
+    alloc: Global,
+    head: &RequestHead,
+    call: &str,
+    words: &mut Words<'_>,
+) -> Result<Answer> {
+    let request = request(alloc, head)?;
+    ask(alloc, &request.into_parts().0, call, words)
+}
+
+fn ask_request(
+    alloc: Global,
+    head: &RequestHead,
+    call: &str,
+    words: &mut Words<'_>,
+) -> Result<Answer> {
+    let request = request(alloc, head)?;
+    ask(alloc, &request, call, words)
 }
 
 // The head as a request of the crate `http`.
@@ -38,10 +82,7 @@ fn request(alloc: Global, head: &RequestHead) -> Result<Request<()>> {
     for field in &head.fields {
         builder = builder.header(field.name.as_str(), field.value.as_slice());
     }
-    match builder.body(()) {
-        Ok(request) => Ok(request),
-        Err(_) => bail!("no such request"),
-    }
+    found(builder.body(()).ok(), "no such request")
 }
 
 fn ask<Q: HttpRequest>(
@@ -52,10 +93,7 @@ fn ask<Q: HttpRequest>(
 ) -> Result<Answer> {
     match call {
         "line" => line(alloc, request),
-        "values" => said(
-            alloc,
-            request.get_header_concatenated_values(alloc, words.rest()),
-        ),
+        "values" => values(alloc, request, words.rest()),
         "verify" => verify(alloc, request, words),
         _ => bail!("no such call"),
     }
@@ -74,9 +112,12 @@ fn line<Q: HttpRequest>(alloc: Global, request: &Q) -> Result<Answer> {
     Answer::pair(alloc, method, target)
 }
 
+fn values<Q: HttpRequest>(alloc: Global, request: &Q, name: &str) -> Result<Answer> {
+    said(alloc, request.get_header_concatenated_values(alloc, name))
+}
+
 fn verify<Q: HttpRequest>(alloc: Global, request: &Q, words: &mut Words<'_>) -> Result<Answer> {
     let dates = moment(words)?;
-    let provider = recorded(alloc, words)?;
-    let signature = signature(alloc, words.rest())?;
-    over(alloc, request, &signature, &key(alloc)?, &dates, &provider)
+    let asked = asked_of(alloc, dates, words)?;
+    over(alloc, request, &asked)
 }

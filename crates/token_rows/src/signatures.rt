@@ -1,8 +1,9 @@
 // Tokens that are verified, by the text and the name that they are given.
+use crate::found::{found, outcome};
 use crate::keys::key;
 use crate::records::records;
 use anyhow::{Result, bail};
-use picky_jose::{Jws, JwsAlg, JwsHeader, JwtSig, RawJws, verify_signature};
+use picky_jose::{Jws, JwsAlg, JwsError, JwsHeader, JwtSig, RawJws, verify_signature};
 use rows::{Answer, Words};
 use std::alloc::Global;
 use std::borrow::CowStr;
@@ -24,7 +25,8 @@ pub(crate) fn algorithm(name: &str) -> Result<JwsAlg> {
 }
 
 pub(crate) fn token<'a>(alloc: Global, alg: JwsAlg, text: &'a str) -> Result<RawJws<'a>> {
-    let mut token = RawJws::decode(alloc, CowStr::Borrowed(TOKEN))?;
+    let token = RawJws::decode(alloc, CowStr::Borrowed(TOKEN)).ok();
+    let mut token = found(token, "no token")?;
     token.compact_repr = CowStr::Borrowed(text);
     token.header = JwsHeader::new(alloc, alg);
     Ok(token)
@@ -35,10 +37,7 @@ pub(crate) fn verify(alloc: Global, words: &mut Words<'_>) -> Result<Answer> {
     let key = key(alloc, words)?;
     let token = token(alloc, alg, words.next())?;
     let records = records(alloc, words)?;
-    match token.verify(alloc, &records, &key) {
-        Ok(_) => Ok(Answer::Word("Ok")),
-        Err(error) => Answer::debug(alloc, &error),
-    }
+    outcome(alloc, token.verify(alloc, &records, &key))
 }
 
 // The same of the text alone.
@@ -47,10 +46,7 @@ pub(crate) fn verify_text(alloc: Global, words: &mut Words<'_>) -> Result<Answer
     let key = key(alloc, words)?;
     let text = words.next();
     let records = records(alloc, words)?;
-    match verify_signature(alloc, text, &records, &key, alg) {
-        Ok(()) => Ok(Answer::Word("Ok")),
-        Err(error) => Answer::debug(alloc, &error),
-    }
+    outcome(alloc, verify_signature(alloc, text, &records, &key, alg))
 }
 
 // The payload of a token whose signature holds.
@@ -58,7 +54,11 @@ pub(crate) fn verified(alloc: Global, words: &mut Words<'_>) -> Result<Answer> {
     let key = key(alloc, words)?;
     let text = words.next();
     let records = records(alloc, words)?;
-    match Jws::decode(alloc, text, &records, &key) {
+    payload(alloc, Jws::decode(alloc, text, &records, &key))
+}
+
+fn payload(alloc: Global, token: Result<Jws, JwsError>) -> Result<Answer> {
+    match token {
         Ok(token) => Answer::bytes(alloc, &token.payload),
         Err(error) => Answer::debug(alloc, &error),
     }
@@ -69,8 +69,5 @@ pub(crate) fn signed_claims(alloc: Global, words: &mut Words<'_>) -> Result<Answ
     let key = key(alloc, words)?;
     let text = words.next();
     let records = records(alloc, words)?;
-    match JwtSig::decode(alloc, text, &records, &key) {
-        Ok(_) => Ok(Answer::Word("Ok")),
-        Err(error) => Answer::debug(alloc, &error),
-    }
+    outcome(alloc, JwtSig::decode(alloc, text, &records, &key))
 }

@@ -10,9 +10,10 @@
 //     jws.verify ALG KEY TEXT RECORDS        `Ok`; any text under any name, by a provider of these records
 //     jws.verify_text ALG KEY TEXT RECORDS   the same by `verify_signature`, of the text alone
 //     jws.verify_p256 ALG TEXT BYTES         `Ok`; under a P-256 key, by a provider of this one ECDSA signature with SHA-256
+use crate::found::found;
 use crate::{pairs, signatures};
 use anyhow::{Result, bail};
-use picky_jose::RawJws;
+use picky_jose::{JwsError, RawJws};
 use rows::{Answer, Words};
 use std::alloc::Global;
 use std::borrow::CowStr;
@@ -30,15 +31,20 @@ pub(crate) fn answer(alloc: Global, call: &str, words: &mut Words<'_>) -> Result
 }
 
 fn read(alloc: Global, call: &str, text: &str) -> Result<Answer> {
-    match RawJws::decode(alloc, CowStr::Borrowed(text)) {
+    told(alloc, call, RawJws::decode(alloc, CowStr::Borrowed(text)))
+}
+
+fn told(alloc: Global, call: &str, token: Result<RawJws<'_>, JwsError>) -> Result<Answer> {
+    match token {
         Ok(token) => seen(alloc, call, &token),
         Err(error) => Answer::debug(alloc, &error),
     }
 }
 
 fn unsigned(alloc: Global, text: &str) -> Result<Answer> {
-    let token = RawJws::decode(alloc, CowStr::Borrowed(text))?;
-    Answer::bytes(alloc, &token.discard_signature().payload)
+    let token = RawJws::decode(alloc, CowStr::Borrowed(text)).ok();
+    let token = found(token, "no token")?.discard_signature();
+    Answer::bytes(alloc, &token.payload)
 }
 
 fn seen(alloc: Global, call: &str, token: &RawJws<'_>) -> Result<Answer> {
@@ -60,6 +66,6 @@ fn kid(alloc: Global, token: &RawJws<'_>) -> Result<Answer> {
 }
 
 fn copy(alloc: Global, token: &RawJws<'_>) -> Result<Answer> {
-    let copy = token.clone(alloc)?;
+    let copy = found(token.clone(alloc).ok(), "no memory")?;
     Answer::text(alloc, copy.compact_repr.as_str())
 }

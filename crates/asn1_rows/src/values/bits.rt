@@ -20,7 +20,8 @@
 //     bits.copy BITS
 //     bits.eq BITS BITS
 //     bits.debug BITS                           what `{:?}` prints
-use anyhow::{Result, bail};
+use super::bad_row;
+use anyhow::Result;
 use picky_asn1::CopyIn;
 use picky_asn1::bit_string::BitString;
 use rows::{Answer, Words};
@@ -28,82 +29,57 @@ use std::alloc::Global;
 
 pub(crate) fn answer(alloc: Global, call: &str, words: &mut Words<'_>) -> Result<Answer> {
     match call {
-        "with_len" | "with_bytes" | "with_bytes_and_len" => shown(alloc, made(alloc, call, words)),
-        "set" | "set_num_bits" | "payload_fill" => shown(alloc, changed(alloc, call, words)),
-        "set_bucket" | "get_bucket_mut" | "payload_write" => {
-            shown(alloc, written(alloc, call, words))
-        }
-        "payload_view_mut" => lent(alloc, words),
+        "with_len" => with_len(alloc, words),
+        "with_bytes" => with_bytes(alloc, words),
+        "with_bytes_and_len" => with_bytes_and_len(alloc, words),
+        "payload_view_mut" => payload_view_mut(alloc, words),
         "into_vec" => into_vec(alloc, words),
-        "copy" | "eq" => compared(alloc, call, words),
-        "get_bucket" | "is_set" => at(alloc, call, words),
-        _ => seen(alloc, call, &bits(alloc, words)?),
+        "set" | "set_num_bits" | "payload_fill" => changed(alloc, call, words),
+        "set_bucket" | "get_bucket_mut" | "payload_write" => changed(alloc, call, words),
+        _ => of_bits(alloc, call, words),
     }
 }
 
-fn shown(alloc: Global, bits: Result<BitString>) -> Result<Answer> {
-    Answer::bytes(alloc, bits?.as_bytes())
+fn with_len(alloc: Global, words: &mut Words<'_>) -> Result<Answer> {
+    let bits = BitString::with_len(alloc, words.size()?)?;
+    Answer::bytes(alloc, bits.as_bytes())
+}
+
+fn with_bytes(alloc: Global, words: &mut Words<'_>) -> Result<Answer> {
+    let bits = BitString::with_bytes(alloc, words.bytes(alloc)?)?;
+    Answer::bytes(alloc, bits.as_bytes())
+}
+
+fn with_bytes_and_len(alloc: Global, words: &mut Words<'_>) -> Result<Answer> {
+    let payload = words.bytes(alloc)?;
+    let bits = of_payload(alloc, payload, words.size()?)?;
+    Answer::bytes(alloc, bits.as_bytes())
 }
 
 // The bit string of so many bits of these bytes.
-fn with_len(alloc: Global, payload: Vec<u8>, count: usize) -> Result<BitString> {
+fn of_payload(alloc: Global, payload: Vec<u8>, count: usize) -> Result<BitString> {
     if payload.len() > 0x1000 || payload.len() != count.div_ceil(8) {
-        bail!("so many bits have another payload");
+        return bad_row("so many bits have another payload");
     }
     Ok(BitString::with_bytes_and_len(alloc, payload, count)?)
 }
 
 // The bit string of these contents.
-fn bits(alloc: Global, words: &mut Words<'_>) -> Result<BitString> {
-    let mut payload = words.bytes(alloc)?;
+fn of_contents(alloc: Global, contents: Vec<u8>) -> Result<BitString> {
+    let mut payload = contents;
     if payload.is_empty() {
-        bail!("a count of unused bits is missing");
+        return bad_row("a count of unused bits is missing");
     }
     let unused = usize::from(payload.remove(0));
     let count = payload.len().saturating_mul(8).saturating_sub(unused);
-    with_len(alloc, payload, count)
+    of_payload(alloc, payload, count)
 }
 
-fn made(alloc: Global, call: &str, words: &mut Words<'_>) -> Result<BitString> {
-    match call {
-        "with_len" => Ok(BitString::with_len(alloc, words.size()?)?),
-        "with_bytes" => Ok(BitString::with_bytes(alloc, words.bytes(alloc)?)?),
-        _ => {
-            let payload = words.bytes(alloc)?;
-            with_len(alloc, payload, words.size()?)
-        }
-    }
+fn bits(alloc: Global, words: &mut Words<'_>) -> Result<BitString> {
+    of_contents(alloc, words.bytes(alloc)?)
 }
 
-fn changed(alloc: Global, call: &str, words: &mut Words<'_>) -> Result<BitString> {
-    let mut bits = bits(alloc, words)?;
-    match call {
-        "set" => {
-            let index = words.size()?;
-            bits.set(index, words.truth()?);
-        }
-        "set_num_bits" => bits.set_num_bits(words.size()?)?,
-        _ => bits.payload_view_mut().fill(words.byte()?),
-    }
-    Ok(bits)
-}
-
-fn written(alloc: Global, call: &str, words: &mut Words<'_>) -> Result<BitString> {
-    let mut bits = bits(alloc, words)?;
-    let index = words.size()?;
-    let byte = words.byte()?;
-    if index >= bits.get_num_buckets() {
-        bail!("no such byte");
-    }
-    match call {
-        "set_bucket" => bits.set_bucket(index, byte),
-        "get_bucket_mut" => *bits.get_bucket_mut(index) = byte,
-        _ => bits.payload_view_mut()[index] = byte,
-    }
-    Ok(bits)
-}
-
-fn lent(alloc: Global, words: &mut Words<'_>) -> Result<Answer> {
+fn payload_view_mut(alloc: Global, words: &mut Words<'_>) -> Result<Answer> {
     let mut bits = bits(alloc, words)?;
     Answer::bytes(alloc, bits.payload_view_mut())
 }
@@ -113,31 +89,89 @@ fn into_vec(alloc: Global, words: &mut Words<'_>) -> Result<Answer> {
     Answer::bytes(alloc, &payload)
 }
 
-fn compared(alloc: Global, call: &str, words: &mut Words<'_>) -> Result<Answer> {
-    let one = bits(alloc, words)?;
+fn changed(alloc: Global, call: &str, words: &mut Words<'_>) -> Result<Answer> {
+    let mut bits = bits(alloc, words)?;
+    change(call, &mut bits, words)?;
+    Answer::bytes(alloc, bits.as_bytes())
+}
+
+fn change(call: &str, bits: &mut BitString, words: &mut Words<'_>) -> Result<()> {
     match call {
-        "copy" => Answer::bytes(alloc, one.copy_in(alloc)?.as_bytes()),
-        _ => Ok(Answer::Truth(one == bits(alloc, words)?)),
+        "set" => set(bits, words),
+        "set_num_bits" => set_num_bits(bits, words),
+        "payload_fill" => payload_fill(bits, words),
+        _ => write(call, bits, words),
     }
 }
 
-fn at(alloc: Global, call: &str, words: &mut Words<'_>) -> Result<Answer> {
-    let bits = bits(alloc, words)?;
+fn set(bits: &mut BitString, words: &mut Words<'_>) -> Result<()> {
     let index = words.size()?;
-    match call {
-        "is_set" => Ok(Answer::Truth(bits.is_set(index))),
-        _ if index < bits.get_num_buckets() => Ok(Answer::Byte(bits.get_bucket(index))),
-        _ => bail!("no such byte"),
-    }
+    bits.set(index, words.truth()?);
+    Ok(())
 }
 
-fn seen(alloc: Global, call: &str, bits: &BitString) -> Result<Answer> {
+fn set_num_bits(bits: &mut BitString, words: &mut Words<'_>) -> Result<()> {
+    bits.set_num_bits(words.size()?)?;
+    Ok(())
+}
+
+fn payload_fill(bits: &mut BitString, words: &mut Words<'_>) -> Result<()> {
+    let byte = words.byte()?;
+    bits.payload_view_mut().fill(byte);
+    Ok(())
+}
+
+fn write(call: &str, bits: &mut BitString, words: &mut Words<'_>) -> Result<()> {
+    let index = words.size()?;
+    let byte = words.byte()?;
+    if index >= bits.get_num_buckets() {
+        return bad_row("no such byte");
+    }
+    match call {
+        "set_bucket" => bits.set_bucket(index, byte),
+        "get_bucket_mut" => *bits.get_bucket_mut(index) = byte,
+        _ => bits.payload_view_mut()[index] = byte,
+    }
+    Ok(())
+}
+
+fn of_bits(alloc: Global, call: &str, words: &mut Words<'_>) -> Result<Answer> {
+    let bits = bits(alloc, words)?;
+    seen(alloc, call, &bits, words)
+}
+
+fn seen(alloc: Global, call: &str, bits: &BitString, words: &mut Words<'_>) -> Result<Answer> {
     match call {
         "payload_view" => Answer::bytes(alloc, bits.payload_view()),
         "get_num_bits" => Ok(Answer::Size(bits.get_num_bits())),
         "get_num_unused_bits" => Ok(Answer::Size(usize::from(bits.get_num_unused_bits()))),
         "get_num_buckets" => Ok(Answer::Size(bits.get_num_buckets())),
         "debug" => Answer::debug(alloc, bits),
-        _ => bail!("no such call"),
+        "copy" => copied(alloc, bits),
+        "get_bucket" => get_bucket(bits, words),
+        "is_set" => is_set(bits, words),
+        "eq" => eq(alloc, bits, words),
+        _ => bad_row("no such call"),
     }
+}
+
+fn copied(alloc: Global, bits: &BitString) -> Result<Answer> {
+    Answer::bytes(alloc, bits.copy_in(alloc)?.as_bytes())
+}
+
+fn get_bucket(bits: &BitString, words: &mut Words<'_>) -> Result<Answer> {
+    let index = words.size()?;
+    if index >= bits.get_num_buckets() {
+        return bad_row("no such byte");
+    }
+    Ok(Answer::Byte(bits.get_bucket(index)))
+}
+
+fn is_set(bits: &BitString, words: &mut Words<'_>) -> Result<Answer> {
+    Ok(Answer::Truth(bits.is_set(words.size()?)))
+}
+
+fn eq(alloc: Global, one: &BitString, words: &mut Words<'_>) -> Result<Answer> {
+    let other = bits(alloc, words)?;
+    Ok(Answer::Truth(*one == other))
 }

@@ -9,7 +9,8 @@
 //     date.eq FORM DATE DATE
 //     date.gt FORM DATE DATE
 //     date.error NAME                   what `{}` prints of a refusal
-use anyhow::{Context, Result, bail};
+use super::bad_row;
+use anyhow::Result;
 use jiff::civil::DateTime;
 use picky_asn1::CopyIn;
 use picky_asn1::date::{Date, DateError, GeneralizedTimeRepr, TimeRepr, UTCTimeRepr};
@@ -17,11 +18,9 @@ use rows::{Answer, Words};
 use std::alloc::Global;
 
 pub(crate) fn answer(alloc: Global, call: &str, words: &mut Words<'_>) -> Result<Answer> {
-    match (call, words.next()) {
-        ("error", name) => error(alloc, name),
-        (_, "utc") => of_form::<UTCTimeRepr>(alloc, call, words),
-        (_, "generalized") => of_form::<GeneralizedTimeRepr>(alloc, call, words),
-        _ => bail!("no such form"),
+    match call {
+        "error" => error(alloc, words.next()),
+        _ => with_form(alloc, call, words),
     }
 }
 
@@ -31,7 +30,7 @@ fn error(alloc: Global, name: &str) -> Result<Answer> {
         "BadDateText" => Answer::display(alloc, &DateError::BadDateText),
         "NoSuchDate" => Answer::display(alloc, &DateError::NoSuchDate),
         "OutOfMemory" => Answer::display(alloc, &DateError::OutOfMemory),
-        _ => bail!("no such refusal"),
+        _ => bad_row("no such refusal"),
     }
 }
 
@@ -44,31 +43,48 @@ fn refusal(error: &DateError) -> Answer {
     }
 }
 
+fn with_form(alloc: Global, call: &str, words: &mut Words<'_>) -> Result<Answer> {
+    match words.next() {
+        "utc" => of_form::<UTCTimeRepr>(alloc, call, words),
+        "generalized" => of_form::<GeneralizedTimeRepr>(alloc, call, words),
+        _ => bad_row("no such form"),
+    }
+}
+
 fn of_form<TR: TimeRepr + Ord>(alloc: Global, call: &str, words: &mut Words<'_>) -> Result<Answer> {
     match call {
         "read_text" => numbers(alloc, Date::<TR>::read_text(words.rest().as_bytes())),
         "copy" => copied::<TR>(alloc, words.rest()),
-        "write_text" => text::<TR>(alloc, date(words)?),
-        "to_civil" => to_civil::<TR>(alloc, date(words)?),
+        "write_text" => write_text::<TR>(alloc, words),
+        "to_civil" => to_civil::<TR>(alloc, words),
         "from_civil" => from_civil::<TR>(alloc, words.next()),
         "eq" | "gt" => compared::<TR>(call, words),
-        _ => bail!("no such call"),
+        _ => bad_row("no such call"),
     }
 }
 
 fn date<TR>(words: &mut Words<'_>) -> Result<Date<TR>> {
-    let year = words.parsed()?;
-    let month = words.parsed()?;
-    let day = words.parsed()?;
-    let hour = words.parsed()?;
-    let minute = words.parsed()?;
-    let second = words.parsed()?;
-    Date::new(year, month, day, hour, minute, second).context("a number is out of range")
+    let (year, month, day) = day(words)?;
+    let (hour, minute, second) = time(words)?;
+    match Date::new(year, month, day, hour, minute, second) {
+        Some(date) => Ok(date),
+        None => bad_row("a number is out of range"),
+    }
+}
+
+fn day(words: &mut Words<'_>) -> Result<(u16, u8, u8)> {
+    Ok((words.parsed()?, words.parsed()?, words.parsed()?))
+}
+
+fn time(words: &mut Words<'_>) -> Result<(u8, u8, u8)> {
+    Ok((words.parsed()?, words.parsed()?, words.parsed()?))
 }
 
 fn from_civil<TR: TimeRepr>(alloc: Global, text: &str) -> Result<Answer> {
-    let civil = text.parse::<DateTime>().ok().context("no date")?;
-    numbers(alloc, Date::<TR>::from_civil(civil))
+    match text.parse::<DateTime>() {
+        Ok(civil) => numbers(alloc, Date::<TR>::from_civil(civil)),
+        Err(_) => bad_row("no date"),
+    }
 }
 
 fn numbers<TR>(alloc: Global, date: Result<Date<TR>, DateError>) -> Result<Answer> {
@@ -82,32 +98,42 @@ fn printed<TR>(alloc: Global, date: &Date<TR>) -> Result<Answer> {
     Answer::numbers(
         alloc,
         &[
-            u64::from(date.year()),
-            u64::from(date.month()),
-            u64::from(date.day()),
-            u64::from(date.hour()),
-            u64::from(date.minute()),
-            u64::from(date.second()),
+            date.year() as u64,
+            date.month() as u64,
+            date.day() as u64,
+            date.hour() as u64,
+            date.minute() as u64,
+            date.second() as u64,
         ],
     )
 }
 
-fn text<TR: TimeRepr>(alloc: Global, date: Date<TR>) -> Result<Answer> {
+fn write_text<TR: TimeRepr>(alloc: Global, words: &mut Words<'_>) -> Result<Answer> {
+    let date = date::<TR>(words)?;
+    text(alloc, &date)
+}
+
+fn text<TR: TimeRepr>(alloc: Global, date: &Date<TR>) -> Result<Answer> {
     match date.write_text(alloc) {
-        Ok(text) => match String::from_utf8(text) {
-            Ok(text) => Ok(Answer::Text(text)),
-            Err(_) => bail!("these bytes are no text"),
-        },
+        Ok(text) => ascii(text),
         Err(error) => Ok(refusal(&error)),
+    }
+}
+
+fn ascii(text: Vec<u8>) -> Result<Answer> {
+    match String::from_utf8(text) {
+        Ok(text) => Ok(Answer::Text(text)),
+        Err(_) => bad_row("these bytes are no text"),
     }
 }
 
 fn copied<TR: TimeRepr>(alloc: Global, text: &str) -> Result<Answer> {
     let date = Date::<TR>::read_text(text.as_bytes())?;
-    self::text(alloc, date.copy_in(alloc)?)
+    self::text(alloc, &date.copy_in(alloc)?)
 }
 
-fn to_civil<TR>(alloc: Global, date: Date<TR>) -> Result<Answer> {
+fn to_civil<TR>(alloc: Global, words: &mut Words<'_>) -> Result<Answer> {
+    let date = date::<TR>(words)?;
     match date.to_civil() {
         Ok(civil) => Answer::display(alloc, &civil),
         Err(error) => Ok(refusal(&error)),
@@ -117,6 +143,10 @@ fn to_civil<TR>(alloc: Global, date: Date<TR>) -> Result<Answer> {
 fn compared<TR: Ord>(call: &str, words: &mut Words<'_>) -> Result<Answer> {
     let one = date::<TR>(words)?;
     let other = date::<TR>(words)?;
+    comparison(call, &one, &other)
+}
+
+fn comparison<TR: Ord>(call: &str, one: &Date<TR>, other: &Date<TR>) -> Result<Answer> {
     match call {
         "eq" => Ok(Answer::Truth(one == other)),
         _ => Ok(Answer::Truth(one > other)),

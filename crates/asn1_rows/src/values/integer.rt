@@ -7,7 +7,8 @@
 //     integer.is_positive INTEGER
 //     integer.is_negative INTEGER
 //     integer.debug INTEGER                    what `{:?}` prints
-use anyhow::{Result, bail};
+use super::bad_row;
+use anyhow::Result;
 use picky_asn1::wrapper::IntegerAsn1;
 use rows::{Answer, Words};
 use std::alloc::Global;
@@ -17,7 +18,7 @@ pub(crate) fn answer(alloc: Global, call: &str, words: &mut Words<'_>) -> Result
     match call {
         "from_bytes_be_signed" => from_signed(alloc, bytes),
         "from_bytes_be_unsigned" => from_unsigned(alloc, bytes),
-        _ => seen(alloc, call, &IntegerAsn1::from(bytes)),
+        _ => of_integer(alloc, call, bytes),
     }
 }
 
@@ -30,6 +31,11 @@ fn from_unsigned(alloc: Global, bytes: Vec<u8>) -> Result<Answer> {
     Answer::bytes(alloc, integer.0.as_slice())
 }
 
+fn of_integer(alloc: Global, call: &str, bytes: Vec<u8>) -> Result<Answer> {
+    let integer = IntegerAsn1::from(bytes);
+    seen(alloc, call, &integer)
+}
+
 fn seen(alloc: Global, call: &str, integer: &IntegerAsn1) -> Result<Answer> {
     match call {
         "as_signed_bytes_be" => Answer::bytes(alloc, integer.as_signed_bytes_be()),
@@ -37,6 +43,6 @@ fn seen(alloc: Global, call: &str, integer: &IntegerAsn1) -> Result<Answer> {
         "is_positive" => Ok(Answer::Truth(integer.is_positive())),
         "is_negative" => Ok(Answer::Truth(integer.is_negative())),
         "debug" => Answer::debug(alloc, integer),
-        _ => bail!("no such call"),
+        _ => bad_row("no such call"),
     }
 }

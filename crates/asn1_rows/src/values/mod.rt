@@ -8,7 +8,7 @@ mod tag;
 mod text;
 mod types;
 
-use anyhow::{Result, bail};
+use anyhow::{Error, Result};
 use rows::{Answer, Words};
 use std::alloc::Global;
 
@@ -28,6 +28,11 @@ pub(crate) fn answer(
         "oid" => oid::answer(alloc, call, words),
         "text" => text::answer(alloc, call, words),
         "date" => date::answer(alloc, call, words),
-        _ => bail!("no such call"),
+        _ => bad_row("no such call"),
     }
+}
+
+// The error of a row that is no call. It has no clause, so a caller knows nothing of the text.
+fn bad_row<T>(cause: &'static str) -> Result<T> {
+    Err(Error::msg(cause))
 }

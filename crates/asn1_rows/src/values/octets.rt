@@ -7,49 +7,79 @@
 //     octets.into_vec OCTETS
 //     octets.eq OCTETS OCTETS
 //     octets.le OCTETS OCTETS
-use anyhow::{Result, bail};
+use super::bad_row;
+use anyhow::Result;
 use picky_asn1::wrapper::OctetStringAsn1;
 use rows::{Answer, Words};
 use std::alloc::Global;
 
 pub(crate) fn answer(alloc: Global, call: &str, words: &mut Words<'_>) -> Result<Answer> {
+    let octets = OctetStringAsn1::from(words.bytes(alloc)?);
     match call {
-        "push" => push(alloc, words),
-        "into_vec" => into_vec(alloc, words),
-        "eq" | "le" => compared(alloc, call, words),
-        _ => seen(alloc, call, &octets(alloc, words)?),
+        "push" => push(alloc, octets, words),
+        "into_vec" => into_vec(alloc, octets),
+        _ => of_octets(alloc, call, octets, words),
     }
 }
 
-fn octets(alloc: Global, words: &mut Words<'_>) -> Result<OctetStringAsn1> {
-    Ok(OctetStringAsn1::from(words.bytes(alloc)?))
-}
-
-fn push(alloc: Global, words: &mut Words<'_>) -> Result<Answer> {
-    let mut octets = octets(alloc, words)?;
-    octets.push(words.byte()?)?;
+fn push(alloc: Global, octets: OctetStringAsn1, words: &mut Words<'_>) -> Result<Answer> {
+    let mut octets = octets;
+    push_byte(&mut octets, words)?;
     Answer::bytes(alloc, octets.0.as_slice())
 }
 
-fn into_vec(alloc: Global, words: &mut Words<'_>) -> Result<Answer> {
-    let bytes: Vec<u8> = Vec::from(octets(alloc, words)?);
+fn push_byte(octets: &mut OctetStringAsn1, words: &mut Words<'_>) -> Result<()> {
+    let byte = words.byte()?;
+    octets.push(byte)?;
+    Ok(())
+}
+
+fn into_vec(alloc: Global, octets: OctetStringAsn1) -> Result<Answer> {
+    let bytes: Vec<u8> = Vec::from(octets);
     Answer::bytes(alloc, &bytes)
 }
 
-fn compared(alloc: Global, call: &str, words: &mut Words<'_>) -> Result<Answer> {
-    let one = octets(alloc, words)?;
-    let other = octets(alloc, words)?;
-    match call {
-        "eq" => Ok(Answer::Truth(one == other)),
-        _ => Ok(Answer::Truth(one <= other)),
-    }
+fn of_octets(
+    alloc: Global,
+    call: &str,
+    octets: OctetStringAsn1,
+    words: &mut Words<'_>,
+) -> Result<Answer> {
+    seen(alloc, call, &octets, words)
 }
 
-fn seen(alloc: Global, call: &str, octets: &OctetStringAsn1) -> Result<Answer> {
+fn seen(
+    alloc: Global,
+    call: &str,
+    octets: &OctetStringAsn1,
+    words: &mut Words<'_>,
+) -> Result<Answer> {
     match call {
         "debug" => Answer::debug(alloc, octets),
         "len" => Ok(Answer::Size(octets.len())),
-        "clone" => Answer::bytes(alloc, octets.clone(alloc)?.0.as_slice()),
-        _ => bail!("no such call"),
+        "clone" => copied(alloc, octets),
+        _ => compared(alloc, call, octets, words),
+    }
+}
+
+fn copied(alloc: Global, octets: &OctetStringAsn1) -> Result<Answer> {
+    Answer::bytes(alloc, octets.clone(alloc)?.0.as_slice())
+}
+
+fn compared(
+    alloc: Global,
+    call: &str,
+    one: &OctetStringAsn1,
+    words: &mut Words<'_>,
+) -> Result<Answer> {
+    let other = OctetStringAsn1::from(words.bytes(alloc)?);
+    comparison(call, one, &other)
+}
+
+fn comparison(call: &str, one: &OctetStringAsn1, other: &OctetStringAsn1) -> Result<Answer> {
+    match call {
+        "eq" => Ok(Answer::Truth(one == other)),
+        "le" => Ok(Answer::Truth(one <= other)),
+        _ => bad_row("no such call"),
     }
 }

@@ -5,7 +5,8 @@
 //     oid.copy CONTENTS                the copy's contents
 //     oid.is_that_of CONTENTS TEXT     whether the two are equal
 //     oid.error NAME                   what `{}` prints of a refusal
-use anyhow::{Result, bail};
+use super::bad_row;
+use anyhow::Result;
 use picky_asn1::CopyIn;
 use picky_asn1::oid::{ObjectIdentifier, OidError};
 use rows::{Answer, Words};
@@ -14,11 +15,8 @@ use std::alloc::Global;
 pub(crate) fn answer(alloc: Global, call: &str, words: &mut Words<'_>) -> Result<Answer> {
     match call {
         "from_text" => from_text(alloc, words.rest()),
-        "from_contents" => from_contents(alloc, words),
-        "copy" => copied(alloc, words),
-        "is_that_of" => is_that_of(alloc, words),
         "error" => error(alloc, words.next()),
-        _ => bail!("no such call"),
+        _ => of_contents(alloc, call, words),
     }
 }
 
@@ -37,25 +35,35 @@ fn from_text(alloc: Global, text: &str) -> Result<Answer> {
     }
 }
 
-fn from_contents(alloc: Global, words: &mut Words<'_>) -> Result<Answer> {
-    match ObjectIdentifier::from_contents(alloc, &words.bytes(alloc)?) {
+fn of_contents(alloc: Global, call: &str, words: &mut Words<'_>) -> Result<Answer> {
+    let bytes = words.bytes(alloc)?;
+    seen(alloc, call, &bytes, words)
+}
+
+fn seen(alloc: Global, call: &str, bytes: &[u8], words: &mut Words<'_>) -> Result<Answer> {
+    match call {
+        "from_contents" => from_contents(alloc, bytes),
+        "copy" => copied(alloc, bytes),
+        "is_that_of" => is_that_of(alloc, bytes, words.rest()),
+        _ => bad_row("no such call"),
+    }
+}
+
+fn from_contents(alloc: Global, bytes: &[u8]) -> Result<Answer> {
+    match ObjectIdentifier::from_contents(alloc, bytes) {
         Ok(identifier) => Ok(Answer::Text(identifier.to_text(alloc)?)),
         Err(error) => Ok(refusal(&error)),
     }
 }
 
-fn identifier(alloc: Global, words: &mut Words<'_>) -> Result<ObjectIdentifier> {
-    Ok(ObjectIdentifier::from_contents(alloc, &words.bytes(alloc)?)?)
-}
-
-fn copied(alloc: Global, words: &mut Words<'_>) -> Result<Answer> {
-    let identifier = identifier(alloc, words)?;
+fn copied(alloc: Global, bytes: &[u8]) -> Result<Answer> {
+    let identifier = ObjectIdentifier::from_contents(alloc, bytes)?;
     Answer::bytes(alloc, identifier.copy_in(alloc)?.contents())
 }
 
-fn is_that_of(alloc: Global, words: &mut Words<'_>) -> Result<Answer> {
-    let identifier = identifier(alloc, words)?;
-    let other = ObjectIdentifier::from_text(alloc, words.rest())?;
+fn is_that_of(alloc: Global, bytes: &[u8], text: &str) -> Result<Answer> {
+    let identifier = ObjectIdentifier::from_contents(alloc, bytes)?;
+    let other = ObjectIdentifier::from_text(alloc, text)?;
     Ok(Answer::Truth(identifier == other))
 }
 
@@ -64,6 +72,6 @@ fn error(alloc: Global, name: &str) -> Result<Answer> {
         "BadText" => Answer::display(alloc, &OidError::BadText),
         "BadContents" => Answer::display(alloc, &OidError::BadContents),
         "OutOfMemory" => Answer::display(alloc, &OidError::OutOfMemory),
-        _ => bail!("no such refusal"),
+        _ => bad_row("no such refusal"),
     }
 }

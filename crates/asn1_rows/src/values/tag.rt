@@ -20,24 +20,25 @@
 //     tag.copy TAG                                the copy's byte
 //     tag.copy_class TAG                          what `{}` prints of a copy
 //     tag.copy_encoding TAG
-use anyhow::{Context, Result, bail};
+use super::bad_row;
+use anyhow::Result;
 use picky_asn1::CopyIn;
 use picky_asn1::tag::Tag;
 use rows::{Answer, Words};
-use std::alloc::{AllocError, Global};
+use std::alloc::Global;
+use std::fmt;
 
 pub(crate) fn answer(alloc: Global, call: &str, words: &mut Words<'_>) -> Result<Answer> {
     match call {
-        "constant" => Ok(Answer::Byte(constant(words.next()).context("no such tag")?.0)),
-        "display" | "debug" | "class" | "encoding" => printed(
-            alloc,
-            call,
-            Tag::from(words.byte()?),
-        ),
-        "copy" | "copy_class" | "copy_encoding" => copied(alloc, call, Tag::from(words.byte()?)),
-        "inner" | "number" => part(call, Tag::from(words.byte()?)),
-        _ if call.starts_with("is_") => test(call, Tag::from(words.byte()?)),
-        _ => made(call, words.byte()?),
+        "constant" => named(words.next()),
+        _ => of_byte(alloc, call, words.byte()?),
+    }
+}
+
+fn named(name: &str) -> Result<Answer> {
+    match constant(name) {
+        Some(tag) => Ok(Answer::Byte(tag.0)),
+        None => bad_row("no such tag"),
     }
 }
 
@@ -67,20 +68,39 @@ fn constant(name: &str) -> Option<Tag> {
     }
 }
 
-fn printed(alloc: Global, call: &str, tag: Tag) -> Result<Answer> {
+fn of_byte(alloc: Global, call: &str, byte: u8) -> Result<Answer> {
+    match call {
+        "application_primitive" => Ok(Answer::Byte(Tag::application_primitive(byte).0)),
+        "application_constructed" => Ok(Answer::Byte(Tag::application_constructed(byte).0)),
+        "context_specific_primitive" => Ok(Answer::Byte(Tag::context_specific_primitive(byte).0)),
+        "context_specific_constructed" => {
+            Ok(Answer::Byte(Tag::context_specific_constructed(byte).0))
+        }
+        _ => of_tag(alloc, call, Tag::from(byte)),
+    }
+}
+
+fn of_tag(alloc: Global, call: &str, tag: Tag) -> Result<Answer> {
     match call {
         "display" => Answer::display(alloc, &tag),
         "debug" => Answer::debug(alloc, &tag),
         "class" => Answer::display(alloc, &tag.class()),
-        _ => Answer::display(alloc, &tag.encoding()),
+        "encoding" => Answer::display(alloc, &tag.encoding()),
+        "inner" => Ok(Answer::Byte(tag.inner())),
+        "number" => Ok(Answer::Size(usize::from(tag.number()))),
+        "copy" => copied(alloc, tag),
+        "copy_class" => printed_copy(alloc, &tag.class()),
+        "copy_encoding" => printed_copy(alloc, &tag.encoding()),
+        _ => test(call, tag),
     }
 }
 
-fn part(call: &str, tag: Tag) -> Result<Answer> {
-    match call {
-        "inner" => Ok(Answer::Byte(tag.inner())),
-        _ => Ok(Answer::Size(usize::from(tag.number()))),
-    }
+fn copied(alloc: Global, tag: Tag) -> Result<Answer> {
+    Ok(Answer::Byte(tag.copy_in(alloc)?.0))
+}
+
+fn printed_copy<T: CopyIn + fmt::Display + Drop>(alloc: Global, value: &T) -> Result<Answer> {
+    Answer::display(alloc, &value.copy_in(alloc)?)
 }
 
 fn test(call: &str, tag: Tag) -> Result<Answer> {
@@ -91,30 +111,6 @@ fn test(call: &str, tag: Tag) -> Result<Answer> {
         "is_private" => Ok(Answer::Truth(tag.is_private())),
         "is_constructed" => Ok(Answer::Truth(tag.is_constructed())),
         "is_primitive" => Ok(Answer::Truth(tag.is_primitive())),
-        _ => bail!("no such call"),
-    }
-}
-
-fn made(call: &str, number: u8) -> Result<Answer> {
-    match call {
-        "application_primitive" => Ok(Answer::Byte(Tag::application_primitive(number).0)),
-        "application_constructed" => Ok(Answer::Byte(Tag::application_constructed(number).0)),
-        "context_specific_primitive" => Ok(Answer::Byte(Tag::context_specific_primitive(number).0)),
-        "context_specific_constructed" => {
-            Ok(Answer::Byte(Tag::context_specific_constructed(number).0))
-        }
-        _ => bail!("no such call"),
-    }
-}
-
-fn copy<T: CopyIn>(alloc: Global, value: &T) -> Result<T, AllocError> {
-    value.copy_in(alloc)
-}
-
-fn copied(alloc: Global, call: &str, tag: Tag) -> Result<Answer> {
-    match call {
-        "copy" => Ok(Answer::Byte(copy(alloc, &tag)?.0)),
-        "copy_class" => Answer::display(alloc, &copy(alloc, &tag.class())?),
-        _ => Answer::display(alloc, &copy(alloc, &tag.encoding())?),
+        _ => bad_row("no such call"),
     }
 }

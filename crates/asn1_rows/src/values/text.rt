@@ -15,7 +15,8 @@
 //     text.into_string SET STRING          the text
 //     text.to_utf8 bmp STRING              the text's bytes
 //     text.error NAME                      what `{}` prints of a refusal
-use anyhow::{Result, bail};
+use super::bad_row;
+use anyhow::Result;
 use picky_asn1::CopyIn;
 use picky_asn1::restricted_string::{
     BmpCharSet, BmpString, CharSet, CharSetError, Ia5CharSet, NumericCharSet, PrintableCharSet,
@@ -28,10 +29,7 @@ use std::convert::AsSlice;
 pub(crate) fn answer(alloc: Global, call: &str, words: &mut Words<'_>) -> Result<Answer> {
     match call {
         "error" => error(alloc, words.next()),
-        "from_str" | "from_string" | "is_that_of" | "as_utf8" | "into_string" | "to_utf8" => {
-            with_text(alloc, call, words)
-        }
-        _ => with_bytes(alloc, call, words),
+        _ => with_set(alloc, call, words),
     }
 }
 
@@ -46,27 +44,28 @@ fn error(alloc: Global, name: &str) -> Result<Answer> {
     match name {
         "Invalid" => Answer::display(alloc, &CharSetError::Invalid),
         "OutOfMemory" => Answer::display(alloc, &CharSetError::OutOfMemory),
-        _ => bail!("no such refusal"),
+        _ => bad_row("no such refusal"),
     }
 }
 
-fn with_bytes(alloc: Global, call: &str, words: &mut Words<'_>) -> Result<Answer> {
+fn with_set(alloc: Global, call: &str, words: &mut Words<'_>) -> Result<Answer> {
     match words.next() {
-        "numeric" => of_set::<NumericCharSet>(alloc, call, words),
-        "printable" => of_set::<PrintableCharSet>(alloc, call, words),
-        "utf8" => of_set::<Utf8CharSet>(alloc, call, words),
-        "ia5" => of_set::<Ia5CharSet>(alloc, call, words),
-        "bmp" => of_set::<BmpCharSet>(alloc, call, words),
-        _ => bail!("no such set"),
+        "numeric" => of_texts::<NumericCharSet>(alloc, call, words),
+        "printable" => of_texts::<PrintableCharSet>(alloc, call, words),
+        "utf8" => of_texts::<Utf8CharSet>(alloc, call, words),
+        "ia5" => of_texts::<Ia5CharSet>(alloc, call, words),
+        "bmp" => of_bmp(alloc, call, words),
+        _ => bad_row("no such set"),
     }
 }
 
+// The calls of each set.
 fn of_set<C: CharSet>(alloc: Global, call: &str, words: &mut Words<'_>) -> Result<Answer> {
     match call {
         "members" => members::<C>(alloc),
-        "new" => held(alloc, RestrictedString::<C>::new(words.bytes(alloc)?)),
-        "into_vec" => into_vec(alloc, string::<C>(alloc, words)?),
-        _ => seen(alloc, call, &string::<C>(alloc, words)?),
+        "new" => new::<C>(alloc, words),
+        "into_vec" => into_vec::<C>(alloc, words),
+        _ => of_string::<C>(alloc, call, words),
     }
 }
 
@@ -94,32 +93,35 @@ fn string<C: CharSet>(alloc: Global, words: &mut Words<'_>) -> Result<Restricted
     Ok(RestrictedString::new(words.bytes(alloc)?)?)
 }
 
-fn into_vec<C: CharSet>(alloc: Global, string: RestrictedString<C>) -> Result<Answer> {
-    let bytes: Vec<u8> = string.into();
+fn new<C: CharSet>(alloc: Global, words: &mut Words<'_>) -> Result<Answer> {
+    held(alloc, RestrictedString::<C>::new(words.bytes(alloc)?))
+}
+
+fn into_vec<C: CharSet>(alloc: Global, words: &mut Words<'_>) -> Result<Answer> {
+    let bytes: Vec<u8> = string::<C>(alloc, words)?.into();
     Answer::bytes(alloc, &bytes)
+}
+
+fn of_string<C: CharSet>(alloc: Global, call: &str, words: &mut Words<'_>) -> Result<Answer> {
+    let string = string::<C>(alloc, words)?;
+    seen(alloc, call, &string)
 }
 
 fn seen<C: CharSet>(alloc: Global, call: &str, string: &RestrictedString<C>) -> Result<Answer> {
     match call {
-        "copy" => Answer::bytes(alloc, string.copy_in(alloc)?.as_bytes()),
+        "copy" => copied(alloc, string),
         "as_slice" => Answer::bytes(alloc, AsSlice::as_slice(string)),
         "display" => Answer::display(alloc, string),
         "debug" => Answer::debug(alloc, string),
-        _ => bail!("no such call"),
+        _ => bad_row("no such call"),
     }
 }
 
-fn with_text(alloc: Global, call: &str, words: &mut Words<'_>) -> Result<Answer> {
-    match words.next() {
-        "numeric" => of_texts::<NumericCharSet>(alloc, call, words),
-        "printable" => of_texts::<PrintableCharSet>(alloc, call, words),
-        "utf8" => of_texts::<Utf8CharSet>(alloc, call, words),
-        "ia5" => of_texts::<Ia5CharSet>(alloc, call, words),
-        "bmp" => of_bmp(alloc, call, words),
-        _ => bail!("no such set"),
-    }
+fn copied<C: CharSet>(alloc: Global, string: &RestrictedString<C>) -> Result<Answer> {
+    Answer::bytes(alloc, string.copy_in(alloc)?.as_bytes())
 }
 
+// Those of the sets that are parts of UTF-8.
 fn of_texts<C: Utf8Set + PartialEq>(
     alloc: Global,
     call: &str,
@@ -129,9 +131,9 @@ fn of_texts<C: Utf8Set + PartialEq>(
         "from_str" => held(alloc, RestrictedString::<C>::from_str(alloc, words.rest())),
         "from_string" => from_string::<C>(alloc, words.rest()),
         "is_that_of" => is_that_of::<C>(alloc, words),
-        "as_utf8" => Answer::text(alloc, string::<C>(alloc, words)?.as_utf8()),
-        "into_string" => Ok(Answer::Text(string::<C>(alloc, words)?.into_string())),
-        _ => bail!("no such call"),
+        "as_utf8" => as_utf8::<C>(alloc, words),
+        "into_string" => into_string::<C>(alloc, words),
+        _ => of_set::<C>(alloc, call, words),
     }
 }
 
@@ -146,21 +148,40 @@ fn is_that_of<C: Utf8Set + PartialEq>(alloc: Global, words: &mut Words<'_>) -> R
     Ok(Answer::Truth(string == other))
 }
 
+fn as_utf8<C: Utf8Set>(alloc: Global, words: &mut Words<'_>) -> Result<Answer> {
+    Answer::text(alloc, string::<C>(alloc, words)?.as_utf8())
+}
+
+fn into_string<C: Utf8Set>(alloc: Global, words: &mut Words<'_>) -> Result<Answer> {
+    Ok(Answer::Text(string::<C>(alloc, words)?.into_string()))
+}
+
+// Those of BMPString.
 fn of_bmp(alloc: Global, call: &str, words: &mut Words<'_>) -> Result<Answer> {
     match call {
-        "from_str" => held(alloc, BmpString::from_str(alloc, &words.text(alloc)?)),
+        "from_str" => bmp_from_str(alloc, words),
         "is_that_of" => is_bmp_of(alloc, words),
-        "to_utf8" => to_utf8(alloc, &string::<BmpCharSet>(alloc, words)?),
-        _ => bail!("no such call"),
+        "to_utf8" => to_utf8(alloc, words),
+        _ => of_set::<BmpCharSet>(alloc, call, words),
     }
+}
+
+fn bmp_from_str(alloc: Global, words: &mut Words<'_>) -> Result<Answer> {
+    let text = words.text(alloc)?;
+    held(alloc, BmpString::from_str(alloc, &text))
 }
 
 fn is_bmp_of(alloc: Global, words: &mut Words<'_>) -> Result<Answer> {
     let string = string::<BmpCharSet>(alloc, words)?;
-    let other = BmpString::from_str(alloc, &words.text(alloc)?)?;
-    Ok(Answer::Truth(string == other))
+    is_that(alloc, &string, &words.text(alloc)?)
 }
 
-fn to_utf8(alloc: Global, string: &BmpString) -> Result<Answer> {
+fn is_that(alloc: Global, string: &BmpString, text: &str) -> Result<Answer> {
+    let other = BmpString::from_str(alloc, text)?;
+    Ok(Answer::Truth(*string == other))
+}
+
+fn to_utf8(alloc: Global, words: &mut Words<'_>) -> Result<Answer> {
+    let string = string::<BmpCharSet>(alloc, words)?;
     Answer::bytes(alloc, string.to_utf8(alloc)?.as_bytes())
 }

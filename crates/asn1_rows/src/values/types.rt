@@ -3,7 +3,8 @@
 //     type.tag TYPE         the byte of its tag
 //     type.name TYPE
 //     type.default TYPE     a copy of its default: bytes in hex, a number, or `true` or `false`
-use anyhow::{Result, bail};
+use super::bad_row;
+use anyhow::Result;
 use picky_asn1::bit_string::BitString;
 use picky_asn1::restricted_string::{BmpString, CharSet, Ia5String, RestrictedString, Utf8String};
 use picky_asn1::wrapper::{IntegerAsn1, OctetStringAsn1};
@@ -15,51 +16,59 @@ pub(crate) fn answer(alloc: Global, call: &str, words: &mut Words<'_>) -> Result
     match call {
         "tag" | "name" => described(call, words.next()),
         "default" => default(alloc, words.next()),
-        _ => bail!("no such call"),
+        _ => bad_row("no such call"),
     }
 }
 
-fn description<T: Asn1Type>(call: &str) -> Answer {
+fn description<T: Asn1Type>(call: &str) -> Result<Answer> {
     match call {
-        "tag" => Answer::Byte(T::TAG.0),
-        _ => Answer::Word(T::NAME),
+        "tag" => Ok(Answer::Byte(T::TAG.0)),
+        _ => Ok(Answer::Word(T::NAME)),
     }
 }
 
 fn described(call: &str, name: &str) -> Result<Answer> {
     match name {
-        "()" => Ok(description::<()>(call)),
-        "bool" => Ok(description::<bool>(call)),
-        "u8" => Ok(description::<u8>(call)),
-        "u16" => Ok(description::<u16>(call)),
-        "u32" => Ok(description::<u32>(call)),
-        "u64" => Ok(description::<u64>(call)),
-        "u128" => Ok(description::<u128>(call)),
-        "String" => Ok(description::<String>(call)),
-        "IntegerAsn1" => Ok(description::<IntegerAsn1>(call)),
-        "OctetStringAsn1" => Ok(description::<OctetStringAsn1>(call)),
-        _ => bail!("no such type"),
+        "()" => description::<()>(call),
+        "bool" => description::<bool>(call),
+        "u8" => description::<u8>(call),
+        "u16" => description::<u16>(call),
+        "u32" => description::<u32>(call),
+        "u64" => description::<u64>(call),
+        "u128" => description::<u128>(call),
+        "String" => description::<String>(call),
+        "IntegerAsn1" => description::<IntegerAsn1>(call),
+        "OctetStringAsn1" => description::<OctetStringAsn1>(call),
+        _ => bad_row("no such type"),
     }
 }
 
 fn default(alloc: Global, name: &str) -> Result<Answer> {
     match name {
-        "bool" => Ok(Answer::Truth(default_of::<bool>(alloc)?)),
-        "u32" => Ok(Answer::Number(i128::from(default_of::<u32>(alloc)?))),
+        "bool" => default_truth(alloc),
+        "u32" => default_number(alloc),
         "String" => default_text(alloc),
         "IntegerAsn1" => default_integer(alloc),
         "OctetStringAsn1" => default_octets(alloc),
         "BitString" => default_bits(alloc),
-        "Utf8String" => default_string(alloc, &default_of::<Utf8String>(alloc)?),
-        "Ia5String" => default_string(alloc, &default_of::<Ia5String>(alloc)?),
-        "BmpString" => default_string(alloc, &default_of::<BmpString>(alloc)?),
-        _ => bail!("no such type"),
+        "Utf8String" => string(alloc, default_of::<Utf8String>(alloc)),
+        "Ia5String" => string(alloc, default_of::<Ia5String>(alloc)),
+        "BmpString" => string(alloc, default_of::<BmpString>(alloc)),
+        _ => bad_row("no such type"),
     }
 }
 
 fn default_of<T: Empty + CopyIn + Drop>(alloc: Global) -> Result<T, AllocError> {
     let default = T::empty(alloc)?;
     default.copy_in(alloc)
+}
+
+fn default_truth(alloc: Global) -> Result<Answer> {
+    Ok(Answer::Truth(default_of(alloc)?))
+}
+
+fn default_number(alloc: Global) -> Result<Answer> {
+    Ok(Answer::Number(i128::from(default_of::<u32>(alloc)?)))
 }
 
 fn default_text(alloc: Global) -> Result<Answer> {
@@ -78,6 +87,9 @@ fn default_bits(alloc: Global) -> Result<Answer> {
     Answer::bytes(alloc, default_of::<BitString>(alloc)?.as_bytes())
 }
 
-fn default_string<C: CharSet>(alloc: Global, string: &RestrictedString<C>) -> Result<Answer> {
-    Answer::bytes(alloc, string.as_bytes())
+fn string<C: CharSet>(
+    alloc: Global,
+    string: Result<RestrictedString<C>, AllocError>,
+) -> Result<Answer> {
+    Answer::bytes(alloc, string?.as_bytes())
 }
