@@ -72,8 +72,12 @@ public_numbers = one integer and one integer and one integer
 unfoldable pub private_numbers : Fields (((((List ℕ × List ℕ) × List ℕ) × List ℕ) × List ℕ) × List ℕ)
 private_numbers = one integer and one integer and one integer and one integer and one integer and one integer
 
+-- all nine numbers, in order
+unfoldable pub rsa_fields : Fields NumbersValue
+rsa_fields = public_numbers and private_numbers
+
 unfoldable pub rsa_private : Form NumbersValue
-rsa_private = sequence (public_numbers and private_numbers)
+rsa_private = sequence rsa_fields
 
 abbrev pub EcValue : Type 0
 EcValue = ((Unit {0} × List ℕ) × Option (List ℕ)) × Option (List ℕ)

@@ -32,7 +32,7 @@ fn read_one(reader: &mut DerReader<'_>) -> Result<(), DerError>
 }
 
 // The number, and the curve and the point where they are there.
-#[derive(Debug, Drop)]
+#[derive(Drop)]
 pub struct EcPrivateKey {
     pub number: Bytes,
     pub curve: Option<ObjectIdentifier>,

@@ -1,7 +1,7 @@
 // The outer value of a private key.
 #![tactic(auto, unfolding(crate::specs::Forms::private_info, picky_fields::specs::Fields::enclosed_at))]
 
-ghost use Rattle.std.specs.Prelude.{◌≡◌, ◌==◌, ℕ, List};
+ghost use Rattle.std.specs.Prelude.{◌≡◌, ◌==◌, nat_lt, ℕ, List};
 ghost use Rattle.picky_der.specs.Reading.{Answers, Reads, Gives};
 ghost use Rattle.picky_fields.specs.Fields.{stands_next, optional, run_at};
 ghost use Rattle.picky_key_private.specs.Forms.{version_of, counted_of, version, attributes, public_bits, InfoValue, info_fields, private_info};
@@ -19,16 +19,19 @@ const ATTRIBUTES: Tag = Tag(160);
 // The public key's tag, `[1]`.
 const PUBLIC_KEY: Tag = Tag(129);
 
+// Whether the version is 0 or 1.
+fn is_version(version: u8) -> bool
+    ensures { result ≡ nat_lt version 2 }
+{
+    version < 2
+}
+
+// The version of these contents octets.
 fn version_of(contents: &[u8]) -> Result<u8, DerError>
     ensures { Answers (λ n. n) result (version_of contents.now) }
 {
     match contents {
-        [version] => {
-            if *version < 2 {
-                return Ok(*version);
-            }
-            Err(DerError::BadValue)
-        }
+        [version] if is_version(*version) => Ok(*version),
         _ => Err(DerError::BadValue),
     }
 }
@@ -44,7 +47,6 @@ pub fn read_version(reader: &mut DerReader<'_>) -> Result<u8, DerError>
     Ok(number)
 }
 
-#[tactic(auto, unfolding(picky_der::specs::Reading::tag_at))]
 fn stands_next(tag: Tag, reader: &DerReader<'_>) -> bool
     ensures { result ≡ stands_next (λ b. b == tag.0) reader.now.left }
 {
@@ -113,7 +115,7 @@ fn read_public_bits(alloc: Global, reader: &mut DerReader<'_>) -> Result<Option<
 
 // The outer value of a private key (RFC 5958 section 2): its algorithm, its octets, and the bits of its public key, where
 // they are there, with their count.
-#[derive(Debug, Drop)]
+#[derive(Drop)]
 pub struct PrivateKeyInfo {
     pub version: u8,
     pub algorithm: AlgorithmIdentifier,

@@ -32,9 +32,10 @@ impl PrivateKey {
     fn read(alloc: Global, bytes: &[u8]) -> Result<PrivateKey, KeyError>
         ensures { Meets (λ k. k) key_fault result (private_table bytes.now) }
     {
+        let kept = Bytes::new(Vec::from_slice(alloc, bytes)?);
         let Said { kind, public_part } = read_said(alloc, bytes)?;
         Ok(PrivateKey {
-            bytes: Bytes::new(Vec::from_slice(alloc, bytes)?),
+            bytes: kept,
             kind,
             public_part,
         })
@@ -101,10 +102,18 @@ impl PrivateKey {
     pub fn clone(&self, alloc: Global) -> Result<PrivateKey, AllocError>
         ensures { IfOk result (λ copy. copy ≡ self.now) }
     {
-        Ok(PrivateKey {
-            bytes: self.bytes.clone(alloc)?,
-            kind: self.kind.clone(alloc)?,
-            public_part: copy_part(alloc, &self.public_part)?,
-        })
+        let bytes = self.bytes.clone(alloc)?;
+        let kind = self.kind.clone(alloc)?;
+        match copy_part(alloc, &self.public_part) {
+            Ok(public_part) => Ok(PrivateKey {
+                bytes,
+                kind,
+                public_part,
+            }),
+            Err(error) => {
+                drop(kind);
+                Err(error)
+            }
+        }
     }
 }

@@ -3,8 +3,8 @@
 
 ghost use Rattle.std.specs.Prelude.{◌≡◌, ℕ, List};
 ghost use Rattle.picky_der.specs.Reading.{Reads, Gives};
-ghost use Rattle.picky_fields.specs.Fields.{◌and◌, run_at};
-ghost use Rattle.picky_key_private.specs.Forms.{NumbersValue, public_numbers, private_numbers, rsa_private};
+ghost use Rattle.picky_fields.specs.Fields.{run_at};
+ghost use Rattle.picky_key_private.specs.Forms.{NumbersValue, public_numbers, private_numbers, rsa_fields, rsa_private};
 ghost use Rattle.picky_key_private.specs.laws.Forms.{rsa_private_lawful};
 
 use picky_asn1_bits::IntegerAsn1;
@@ -13,7 +13,7 @@ use picky_der::{DerError, DerForm, DerRead, DerReader};
 use std::alloc::Global;
 
 // Version, modulus and public exponent.
-#[derive(Debug, Drop)]
+#[derive(Drop)]
 pub struct PublicNumbers {
     pub version: IntegerAsn1,
     pub modulus: IntegerAsn1,
@@ -21,7 +21,7 @@ pub struct PublicNumbers {
 }
 
 // The private exponent, both primes, their exponents and the coefficient.
-#[derive(Debug, Drop)]
+#[derive(Drop)]
 pub struct PrivateNumbers {
     pub private_exponent: IntegerAsn1,
     pub first_prime: IntegerAsn1,
@@ -70,7 +70,7 @@ fn read_private(alloc: Global, reader: &mut DerReader<'_>) -> Result<PrivateNumb
 }
 
 // All nine numbers.
-#[derive(Debug, Drop)]
+#[derive(Drop)]
 pub struct RsaPrivateKey {
     pub shown: PublicNumbers,
     pub hidden: PrivateNumbers,
@@ -92,9 +92,9 @@ impl DerForm for RsaPrivateKey {
     ghost same_value = { λ _ _ e. e };
 }
 
-#[tactic(auto, unfolding(picky_fields::specs::Fields::run_at))]
+#[tactic(auto, unfolding(crate::specs::Forms::rsa_fields, picky_fields::specs::Fields::run_at))]
 fn read_numbers(alloc: Global, mut fields: DerReader<'_>) -> Result<RsaPrivateKey, DerError>
-    ensures { Gives ⟦<RsaPrivateKey as DerForm>⟧.stands_for result (run_at (public_numbers and private_numbers).reading fields.entry.depth fields.entry.left) }
+    ensures { Gives ⟦<RsaPrivateKey as DerForm>⟧.stands_for result (run_at rsa_fields.reading fields.entry.depth fields.entry.left) }
 {
     let shown = read_public(alloc, &mut fields)?;
     let hidden = read_private(alloc, &mut fields)?;

@@ -13,7 +13,7 @@ use Rattle.picky_fields.specs.laws.Fields.{Lawful, LawfulFields, one_lawful, and
 use Rattle.picky_fields.specs.laws.Optional.{only_lawful, optional_lawful}
 use Rattle.picky_fields.specs.laws.Plain.{identifier_lawful, integer_lawful, octets_lawful}
 use Rattle.picky_key_der.specs.laws.Public.{whole_bits_lawful}
-use Rattle.picky_key_private.specs.Forms.{version_of, IsVersion, version_contents, version, kept_contents, attributes, is_counted, counted_of, counted_contents, public_bits, info_fields, private_info, public_numbers, private_numbers, rsa_private, is_one, ec_fields, ec_private}
+use Rattle.picky_key_private.specs.Forms.{version_of, IsVersion, version_contents, version, kept_contents, attributes, is_counted, counted_of, counted_contents, public_bits, info_fields, private_info, public_numbers, private_numbers, rsa_fields, rsa_private, is_one, ec_fields, ec_private}
 
 -- ---- contents octets
 
@@ -103,7 +103,7 @@ private_numbers_lawful =
     and_lawful (λ _ _. refl) (and_lawful (λ _ _. refl) (and_lawful (λ _ _. refl) three (one_lawful integer_lawful)) (one_lawful integer_lawful)) (one_lawful integer_lawful)
 
 pub rsa_private_lawful : Lawful rsa_private
-unfolding rsa_private public_numbers private_numbers
+unfolding rsa_private rsa_fields public_numbers private_numbers
 rsa_private_lawful = sequence_lawful (and_lawful (λ _ _. refl) public_numbers_lawful private_numbers_lawful)
 
 one_tells : Tells version.in_form 1 is_one

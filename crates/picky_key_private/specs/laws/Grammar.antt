@@ -27,7 +27,7 @@ use Rattle.picky_key_der.specs.laws.Grammar.{whole_spelled, spelled_whole, param
 use Rattle.picky_key_der.specs.laws.Public.{whole_takes, whole_again}
 use Rattle.picky_key_der.specs.laws.Reading.{held_kind}
 use Rattle.picky_key_private.specs.declared.private.PrivateKey.{PrivateKey}
-use Rattle.picky_key_private.specs.Forms.{InfoValue, version, attributes, public_bits, info_fields, private_info, public_numbers, private_numbers, rsa_private, is_one, EcValue, ec_fields, ec_private}
+use Rattle.picky_key_private.specs.Forms.{InfoValue, version, attributes, public_bits, info_fields, private_info, public_numbers, private_numbers, rsa_fields, rsa_private, is_one, EcValue, ec_fields, ec_private}
 use Rattle.picky_key_private.specs.Grammar.{HoldsPart, AreWhole, HoldsNumbers, HoldsNumber, HoldsSecret, HoldsPrivate, IsPrivateKey}
 use Rattle.picky_key_private.specs.Private.{private_table}
 use Rattle.picky_key_private.specs.Reading.{rsa_said_table, behind_table, part_table, parts_table, ec_said_table, sized_table, ed_said_table, kind_said_table, said_table}
@@ -53,7 +53,7 @@ info_nests s x p =
     omega (arith, algorithm_nests more.is_first.is_first.back x.0.0.0.1 more.is_first.is_first.is_second, attributes_height more.back x.0.1 more.is_second, bits_height p.fields.back x.1 p.fields.is_second)
 
 rsa_nests : NestsAtMost 256 rsa_private
-unfolding rsa_private public_numbers private_numbers
+unfolding rsa_private rsa_fields public_numbers private_numbers
 rsa_nests s x p = omega arith
 
 curve_height : (s : List ℕ) (o : Option (List ℕ)) (p : SpellsOptional (explicit 0 identifier).Spells s o) → optional_height (explicit 0 identifier) s o p ≤ 1
