@@ -1,4 +1,5 @@
 pub mod Jwk
+pub mod Others
 pub mod Views
 pub mod Trees
 pub mod Refusals

@@ -10,15 +10,14 @@ ghost use Rattle.picky_jwk.specs.Jwk.{Jwk as JwkValue, JwkOf};
 ghost use Rattle.picky_jwk.specs.Views.{jwk_view};
 ghost use Rattle.picky_jwk.specs.Refusals.{bare, json_table, bare_table};
 
-use crate::copy::{copy_operations, copy_text, copy_texts};
-use crate::key::{key_of, put_key};
+use crate::copy::copy_others;
+use crate::key::key_of;
+use crate::read::read_others;
+use crate::written::put_members;
 use picky_jwk_key::{JwkError, JwkKeyType};
 use picky_jwk_names::{Jwa, JwkKeyOps, JwkPubKeyUse};
 use picky_key_der::PublicKey;
-use picky_members::{
-    FormError, JsonForm, either_spelling, from_text, optional, put_optional, to_pretty_text,
-    to_text,
-};
+use picky_members::{FormError, JsonForm, from_text, to_pretty_text, to_text};
 use serde_json::{Map, Value};
 use std::alloc::{AllocError, Global};
 
@@ -67,40 +66,20 @@ impl JsonForm for Jwk {
 
     #[tactic(auto, using(picky_members::specs::laws::Stops::stops))]
     fn from_tree(alloc: Global, tree: &Value) -> Result<Jwk, FormError> {
-        let key = key_of(alloc, tree)?;
-        let alg = optional(alloc, tree, "alg")?;
-        let key_use = optional(alloc, tree, "use")?;
-        let key_ops = optional(alloc, tree, "key_ops")?;
-        let kid = optional(alloc, tree, "kid")?;
-        let x5u = optional(alloc, tree, "x5u")?;
-        let x5c = optional(alloc, tree, "x5c")?;
-        let x5t = optional(alloc, tree, "x5t")?;
-        let x5t_s256 = either_spelling(alloc, tree, "x5t#S256", "x5t#s256")?;
-        Ok(Jwk {
-            key,
-            alg,
-            key_use,
-            key_ops,
-            kid,
-            x5u,
-            x5c,
-            x5t,
-            x5t_s256,
-        })
+        let mut jwk = Jwk::new(key_of(alloc, tree)?);
+        match read_others(alloc, tree, &mut jwk) {
+            Ok(()) => Ok(jwk),
+            Err(error) => {
+                drop(jwk);
+                Err(error)
+            }
+        }
     }
 
     #[tactic(auto, unfolding(crate::specs::Trees::jwk_tree))]
     fn to_tree(&self, alloc: Global) -> Result<Value, AllocError> {
         let mut members = Map::new(alloc);
-        put_key(alloc, &mut members, &self.key)?;
-        put_optional(alloc, &mut members, "alg", &self.alg)?;
-        put_optional(alloc, &mut members, "use", &self.key_use)?;
-        put_optional(alloc, &mut members, "key_ops", &self.key_ops)?;
-        put_optional(alloc, &mut members, "kid", &self.kid)?;
-        put_optional(alloc, &mut members, "x5u", &self.x5u)?;
-        put_optional(alloc, &mut members, "x5c", &self.x5c)?;
-        put_optional(alloc, &mut members, "x5t", &self.x5t)?;
-        put_optional(alloc, &mut members, "x5t#S256", &self.x5t_s256)?;
+        put_members(alloc, &mut members, self)?;
         Ok(Value::Object(members))
     }
 
@@ -191,16 +170,13 @@ impl Jwk {
     pub fn clone(&self, alloc: Global) -> Result<Jwk, AllocError>
         ensures { IfOk result (λ copy. jwk_view copy ≡ jwk_view self.now) }
     {
-        Ok(Jwk {
-            key: self.key.clone(alloc)?,
-            alg: self.alg,
-            key_use: self.key_use,
-            key_ops: copy_operations(alloc, &self.key_ops)?,
-            kid: copy_text(alloc, &self.kid)?,
-            x5u: copy_text(alloc, &self.x5u)?,
-            x5c: copy_texts(alloc, &self.x5c)?,
-            x5t: copy_text(alloc, &self.x5t)?,
-            x5t_s256: copy_text(alloc, &self.x5t_s256)?,
-        })
+        let mut copy = Jwk::new(self.key.clone(alloc)?);
+        match copy_others(alloc, self, &mut copy) {
+            Ok(()) => Ok(copy),
+            Err(error) => {
+                drop(copy);
+                Err(error)
+            }
+        }
     }
 }

@@ -3,7 +3,7 @@ ghost use Rattle.std.specs.Prelude.{◌≡◌, OnOk};
 ghost use Rattle.serde_json.specs.View.{view, members_view};
 ghost use Rattle.picky_members.specs.Reading.{Reads};
 ghost use Rattle.picky_members.specs.Writing.{put_table};
-ghost use Rattle.picky_jwk_key.specs.Keys.{rsa_view, ec_view, ed_view, key_view};
+ghost use Rattle.picky_jwk_key.specs.Keys.{rsa, ec, ed, rsa_view, ec_view, ed_view, key_view};
 ghost use Rattle.picky_jwk.specs.Jwk.{RsaKeyOf, EcKeyOf, EdKeyOf, KeyOf};
 ghost use Rattle.picky_jwk.specs.Trees.{key_table};
 
@@ -60,6 +60,43 @@ pub fn key_of(alloc: Global, tree: &Value) -> Result<JwkKeyType, FormError>
     }
 }
 
+fn put_rsa_key(
+    alloc: Global,
+    members: &mut Map<String, Value>,
+    key: &JwkPublicRsaKey,
+) -> Result<(), AllocError>
+    ensures { OnOk result (members_view members.new.entries ≡ put_table (key_table (rsa (rsa_view key.now))) (members_view members.old.entries)) }
+{
+    put_text(alloc, members, "kty", "RSA")?;
+    put(alloc, members, "n", &key.n)?;
+    put(alloc, members, "e", &key.e)
+}
+
+fn put_ec_key(
+    alloc: Global,
+    members: &mut Map<String, Value>,
+    key: &JwkPublicEcKey,
+) -> Result<(), AllocError>
+    ensures { OnOk result (members_view members.new.entries ≡ put_table (key_table (ec (ec_view key.now))) (members_view members.old.entries)) }
+{
+    put_text(alloc, members, "kty", "EC")?;
+    put(alloc, members, "crv", &key.crv)?;
+    put(alloc, members, "x", &key.x)?;
+    put(alloc, members, "y", &key.y)
+}
+
+fn put_ed_key(
+    alloc: Global,
+    members: &mut Map<String, Value>,
+    key: &JwkPublicEdKey,
+) -> Result<(), AllocError>
+    ensures { OnOk result (members_view members.new.entries ≡ put_table (key_table (ed (ed_view key.now))) (members_view members.old.entries)) }
+{
+    put_text(alloc, members, "kty", "OKP")?;
+    put(alloc, members, "crv", &key.crv)?;
+    put(alloc, members, "x", &key.x)
+}
+
 // Puts the members of the key's type in.
 pub fn put_key(
     alloc: Global,
@@ -69,23 +106,9 @@ pub fn put_key(
     ensures { OnOk result (members_view members.new.entries ≡ put_table (key_table (key_view key.now)) (members_view members.old.entries)) }
 {
     match key {
-        JwkKeyType::Rsa(key) => {
-            put_text(alloc, members, "kty", "RSA")?;
-            put(alloc, members, "n", &key.n)?;
-            put(alloc, members, "e", &key.e)?;
-        }
-        JwkKeyType::Ec(key) => {
-            put_text(alloc, members, "kty", "EC")?;
-            put(alloc, members, "crv", &key.crv)?;
-            put(alloc, members, "x", &key.x)?;
-            put(alloc, members, "y", &key.y)?;
-        }
-        JwkKeyType::Ed(key) => {
-            put_text(alloc, members, "kty", "OKP")?;
-            put(alloc, members, "crv", &key.crv)?;
-            put(alloc, members, "x", &key.x)?;
-        }
-        JwkKeyType::Oct => put_text(alloc, members, "kty", "oct")?,
+        JwkKeyType::Rsa(key) => put_rsa_key(alloc, members, key),
+        JwkKeyType::Ec(key) => put_ec_key(alloc, members, key),
+        JwkKeyType::Ed(key) => put_ed_key(alloc, members, key),
+        JwkKeyType::Oct => put_text(alloc, members, "kty", "oct"),
     }
-    Ok(())
 }

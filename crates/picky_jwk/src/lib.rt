@@ -2,10 +2,13 @@
 #![tactic(auto)]
 
 mod copy;
+mod fill;
 mod jwk;
 mod key;
 pub mod laws;
+mod read;
 mod set;
+mod written;
 
 pub use jwk::Jwk;
 pub use picky_jwk_key::{JwkError, JwkKeyType, JwkPublicEcKey, JwkPublicEdKey, JwkPublicRsaKey};

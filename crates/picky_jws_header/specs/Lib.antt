@@ -1,5 +1,5 @@
 pub mod Header
-pub mod Parts
+pub mod Others
 pub mod Views
 pub mod Trees
 pub mod laws

@@ -2,3 +2,4 @@
 pub mod Once
 pub mod Written
 pub mod Copies
+pub mod Others

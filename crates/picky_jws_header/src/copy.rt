@@ -1,30 +1,49 @@
-// Copies of optional members, and of additional ones.
-ghost use Rattle.std.specs.Prelude.{◌≡◌, IfOk, map, option_map, string_bytes};
+// Copies of the members that may be absent, and of additional ones.
+ghost use Rattle.std.specs.Prelude.{◌≡◌, IfOk, OnOk, map, option_map, string_bytes};
 ghost use Rattle.picky_members.specs.Names.{pairs_view};
 ghost use Rattle.picky_jwk.specs.Views.{jwk_view};
+ghost use Rattle.picky_jws_header.specs.Views.{header_view};
 
+use crate::fill::fill;
+use crate::header::JwsHeader;
 use indexmap::IndexMap;
 use picky_jwk::Jwk;
 use serde_json::Value;
 use std::alloc::{AllocError, Global};
 
-// A copy of a text.
-pub fn copy_text(alloc: Global, text: &Option<String>) -> Result<Option<String>, AllocError>
-    ensures { IfOk result (λ copy. option_map string_bytes copy ≡ option_map string_bytes text.now) }
+// Copies a text into its place.
+fn copy_text(
+    alloc: Global,
+    text: &Option<String>,
+    place: &mut Option<String>,
+) -> Result<(), AllocError>
+    ensures { OnOk result (option_map string_bytes place.new ≡ option_map string_bytes text.now) }
 {
     match text {
-        Some(text) => Ok(Some(String::from_str(alloc, text)?)),
-        None => Ok(None),
+        Some(text) => {
+            fill(place, Some(String::from_str(alloc, text)?));
+            Ok(())
+        }
+        None => {
+            fill(place, None);
+            Ok(())
+        }
     }
 }
 
-// A copy of a key.
-pub fn copy_key(alloc: Global, key: &Option<Jwk>) -> Result<Option<Jwk>, AllocError>
-    ensures { IfOk result (λ copy. option_map jwk_view copy ≡ option_map jwk_view key.now) }
+// Copies a key into its place.
+fn copy_key(alloc: Global, key: &Option<Jwk>, place: &mut Option<Jwk>) -> Result<(), AllocError>
+    ensures { OnOk result (option_map jwk_view place.new ≡ option_map jwk_view key.now) }
 {
     match key {
-        Some(key) => Ok(Some(key.clone(alloc)?)),
-        None => Ok(None),
+        Some(key) => {
+            fill(place, Some(key.clone(alloc)?));
+            Ok(())
+        }
+        None => {
+            fill(place, None);
+            Ok(())
+        }
     }
 }
 
@@ -40,17 +59,43 @@ fn copy_list(alloc: Global, texts: &Vec<String>) -> Result<Vec<String>, AllocErr
     Ok(copies)
 }
 
-// A copy of a list of texts, where there is one.
-pub fn copy_texts(
+// Copies a list of texts into its place.
+fn copy_texts(
     alloc: Global,
     texts: &Option<Vec<String>>,
-) -> Result<Option<Vec<String>>, AllocError>
-    ensures { IfOk result (λ copy. option_map (λ v. map string_bytes v.items) copy ≡ option_map (λ v. map string_bytes v.items) texts.now) }
+    place: &mut Option<Vec<String>>,
+) -> Result<(), AllocError>
+    ensures { OnOk result (option_map (λ v. map string_bytes v.items) place.new ≡ option_map (λ v. map string_bytes v.items) texts.now) }
 {
     match texts {
-        Some(texts) => Ok(Some(copy_list(alloc, texts)?)),
-        None => Ok(None),
+        Some(texts) => {
+            fill(place, Some(copy_list(alloc, texts)?));
+            Ok(())
+        }
+        None => {
+            fill(place, None);
+            Ok(())
+        }
     }
+}
+
+// Copies all but the algorithm and additional members.
+pub fn copy_others(
+    alloc: Global,
+    header: &JwsHeader,
+    copy: &mut JwsHeader,
+) -> Result<(), AllocError>
+    ensures { OnOk result (header_view copy.new ≡ record (header_view header.now) { alg = copy.old.alg; additional = pairs_view copy.old.additional.entries }) }
+{
+    copy_text(alloc, &header.jku, &mut copy.jku)?;
+    copy_key(alloc, &header.jwk, &mut copy.jwk)?;
+    copy_text(alloc, &header.typ, &mut copy.typ)?;
+    copy_text(alloc, &header.cty, &mut copy.cty)?;
+    copy_text(alloc, &header.kid, &mut copy.kid)?;
+    copy_text(alloc, &header.x5u, &mut copy.x5u)?;
+    copy_texts(alloc, &header.x5c, &mut copy.x5c)?;
+    copy_text(alloc, &header.x5t, &mut copy.x5t)?;
+    copy_text(alloc, &header.x5t_s256, &mut copy.x5t_s256)
 }
 
 // A copy of additional members, in their order.

@@ -1,18 +1,19 @@
 // Headers.
 ghost use Rattle.std.specs.Prelude.{◌≡◌, Some, IfOk};
 ghost use Rattle.serde_json.specs.View.{view};
+ghost use Rattle.picky_members.specs.Names.{pairs_view};
 ghost use Rattle.picky_members.specs.Reading.{Reads};
 ghost use Rattle.picky_jws_header.specs.Header.{Header, JwsHeaderOf, bare, in_order};
 ghost use Rattle.picky_jws_header.specs.Views.{header_view};
 ghost use Rattle.picky_jws_header.specs.Trees.{IsWrittenAs};
 
-use crate::copy::{copy_additional, copy_key, copy_text, copy_texts};
-use crate::parts::{certificates_of, signer_of};
+use crate::copy::{copy_additional, copy_others};
+use crate::read::read_others;
 use crate::written::tree_of;
 use indexmap::IndexMap;
 use picky_jwk::Jwk;
 use picky_jwk_names::JwsAlg;
-use picky_members::{FormError, additional_of, holds_any, nests_within, optional, required};
+use picky_members::{FormError, additional_of, holds_any, nests_within, required};
 use serde_json::Value;
 use std::alloc::{AllocError, Global};
 
@@ -56,6 +57,13 @@ impl JwsHeader {
     pub fn new(alloc: Global, alg: JwsAlg) -> JwsHeader
         ensures { header_view result ≡ bare alg }
     {
+        JwsHeader::with_additional(alg, IndexMap::new(alloc))
+    }
+
+    // The header with this algorithm, these additional members and no other member.
+    fn with_additional(alg: JwsAlg, additional: IndexMap<String, Value>) -> JwsHeader
+        ensures { header_view result ≡ record (bare alg) { additional = pairs_view additional.entries } }
+    {
         JwsHeader {
             alg,
             jku: None,
@@ -67,7 +75,7 @@ impl JwsHeader {
             x5c: None,
             x5t: None,
             x5t_s256: None,
-            additional: IndexMap::new(alloc),
+            additional,
         }
     }
 
@@ -85,30 +93,29 @@ impl JwsHeader {
     /// object with both tells none; members without a field are additional, in the tree's order.
     ///
     /// `NotOfForm` exactly where it tells none; else only want of memory.
-    #[tactic(auto, using(picky_members::specs::laws::Stops::stops, picky_members::specs::laws::Stops::out_of_memory))]
+    #[tactic(auto, using(crate::specs::laws::Once::header_only))]
     pub fn from_tree(alloc: Global, tree: &Value) -> Result<JwsHeader, FormError>
         ensures found { Reads header_view (JwsHeaderOf (view tree.now)) result }
         ensures only { IfOk result (λ h. (x : Header) → JwsHeaderOf (view tree.now) x → x ≡ header_view h) }
     {
+        JwsHeader::read(alloc, tree)
+    }
+
+    // The header that the tree tells.
+    #[tactic(auto, using(picky_members::specs::laws::Stops::stops, picky_members::specs::laws::Stops::out_of_memory))]
+    fn read(alloc: Global, tree: &Value) -> Result<JwsHeader, FormError>
+        ensures { Reads header_view (JwsHeaderOf (view tree.now)) result }
+    {
         let alg = required(alloc, tree, "alg")?;
-        let typ = optional(alloc, tree, "typ")?;
-        let cty = optional(alloc, tree, "cty")?;
-        let signer = signer_of(alloc, tree)?;
-        let certificates = certificates_of(alloc, tree)?;
         let additional = additional_of(alloc, &REGISTERED, tree)?;
-        Ok(JwsHeader {
-            alg,
-            jku: signer.jku,
-            jwk: signer.jwk,
-            typ,
-            cty,
-            kid: signer.kid,
-            x5u: certificates.x5u,
-            x5c: certificates.x5c,
-            x5t: certificates.x5t,
-            x5t_s256: certificates.x5t_s256,
-            additional,
-        })
+        let mut header = JwsHeader::with_additional(alg, additional);
+        match read_others(alloc, tree, &mut header) {
+            Ok(()) => Ok(header),
+            Err(error) => {
+                drop(header);
+                Err(error)
+            }
+        }
     }
 
     /// A tree that tells the header, with the additional members in the order of their names' bytes. Absent members aren't written.
@@ -124,6 +131,7 @@ impl JwsHeader {
         }
         let tree = tree_of(alloc, self)?;
         if !nests_within(&tree, MAX_DEPTH) {
+            drop(tree);
             return Err(FormError::NotOfForm);
         }
         Ok(tree)
@@ -133,18 +141,14 @@ impl JwsHeader {
     pub fn clone(&self, alloc: Global) -> Result<JwsHeader, AllocError>
         ensures { IfOk result (λ copy. header_view copy ≡ header_view self.now) }
     {
-        Ok(JwsHeader {
-            alg: self.alg,
-            jku: copy_text(alloc, &self.jku)?,
-            jwk: copy_key(alloc, &self.jwk)?,
-            typ: copy_text(alloc, &self.typ)?,
-            cty: copy_text(alloc, &self.cty)?,
-            kid: copy_text(alloc, &self.kid)?,
-            x5u: copy_text(alloc, &self.x5u)?,
-            x5c: copy_texts(alloc, &self.x5c)?,
-            x5t: copy_text(alloc, &self.x5t)?,
-            x5t_s256: copy_text(alloc, &self.x5t_s256)?,
-            additional: copy_additional(&self.additional)?,
-        })
+        let additional = copy_additional(&self.additional)?;
+        let mut copy = JwsHeader::with_additional(self.alg, additional);
+        match copy_others(alloc, self, &mut copy) {
+            Ok(()) => Ok(copy),
+            Err(error) => {
+                drop(copy);
+                Err(error)
+            }
+        }
     }
 }

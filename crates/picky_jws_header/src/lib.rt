@@ -2,9 +2,10 @@
 #![tactic(auto)]
 
 mod copy;
+mod fill;
 mod header;
 pub mod laws;
-mod parts;
+mod read;
 mod written;
 
 pub use header::JwsHeader;

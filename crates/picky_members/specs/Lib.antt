@@ -1,5 +1,6 @@
 pub mod Members
 pub mod Reading
 pub mod Names
+pub mod Added
 pub mod Writing
 pub mod laws

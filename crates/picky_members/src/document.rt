@@ -17,7 +17,9 @@ pub fn from_text<T: JsonForm>(alloc: Global, text: &str) -> Result<T, FormError>
     let Some(tree) = parse(alloc, text.as_bytes())? else {
         return Err(FormError::NotOfForm);
     };
-    T::from_tree(alloc, &tree)
+    let value = T::from_tree(alloc, &tree);
+    drop(tree);
+    value
 }
 
 /// A compact text that tells the value. Refused for want of memory alone.
@@ -26,8 +28,16 @@ pub fn to_text<T: JsonForm>(alloc: Global, value: &T) -> Result<String, AllocErr
     ensures { IfOk result (λ s. TextOf T.Tells (string_bytes s) (T.stands_for value.now)) }
 {
     let tree = value.to_tree(alloc)?;
-    let text = tree.to_string(alloc)?;
-    Ok(text)
+    match tree.to_string(alloc) {
+        Ok(text) => {
+            drop(tree);
+            Ok(text)
+        }
+        Err(error) => {
+            drop(tree);
+            Err(error)
+        }
+    }
 }
 
 /// A text in lines that tells the value. Refused for want of memory alone.
@@ -36,6 +46,14 @@ pub fn to_pretty_text<T: JsonForm>(alloc: Global, value: &T) -> Result<String, A
     ensures { IfOk result (λ s. TextOf T.Tells (string_bytes s) (T.stands_for value.now)) }
 {
     let tree = value.to_tree(alloc)?;
-    let text = tree.to_string_pretty(alloc)?;
-    Ok(text)
+    match tree.to_string_pretty(alloc) {
+        Ok(text) => {
+            drop(tree);
+            Ok(text)
+        }
+        Err(error) => {
+            drop(tree);
+            Err(error)
+        }
+    }
 }

@@ -1,7 +1,8 @@
 // Members by their names.
-ghost use Rattle.std.specs.Prelude.{◌≡◌, IfOk};
+ghost use Rattle.std.specs.Prelude.{◌≡◌, IfOk, OnOk, string_bytes};
 ghost use Rattle.serde_json.specs.View.{view, members_view};
 ghost use Rattle.picky_members.specs.Names.{is_among as is_one_of, others, holds_any as holds_one, pairs_view, members_without as without, names_view};
+ghost use Rattle.picky_members.specs.Added.{Added};
 
 use indexmap::IndexMap;
 use serde_json::{Map, Value};
@@ -47,6 +48,19 @@ pub fn additional_of(
     }
 }
 
+// Adds a copy of a member.
+fn add_copy(
+    additional: &mut IndexMap<String, Value>,
+    name: &String,
+    member: &Value,
+) -> Result<(), AllocError>
+    ensures { OnOk result (Added additional.old.entries additional.new.entries (string_bytes name.now) (view member.now)) }
+{
+    let name = name.clone()?;
+    drop(additional.insert(name, member.clone()?)?);
+    Ok(())
+}
+
 fn members_without(
     alloc: Global,
     names: &[&str],
@@ -57,7 +71,7 @@ fn members_without(
     let mut additional = IndexMap::new(alloc);
     for (name, member) in members.iter() {
         if !is_among(names, name.as_str()) {
-            drop(additional.insert(name.clone()?, member.clone()?)?);
+            add_copy(&mut additional, name, member)?;
         }
     }
     Ok(additional)

@@ -1,7 +1,7 @@
 // Members that are written.
-ghost use Rattle.std.specs.Prelude.{◌≡◌, OnOk, IfOk, option_map};
+ghost use Rattle.std.specs.Prelude.{◌≡◌, OnOk, IfOk, option_map, string_bytes};
 ghost use Rattle.serde_json.specs.Data.{no_members, string, put as put_member};
-ghost use Rattle.serde_json.specs.View.{members_view};
+ghost use Rattle.serde_json.specs.View.{view, members_view};
 ghost use Rattle.picky_members.specs.Names.{pairs_view};
 ghost use Rattle.picky_members.specs.Writing.{put_some, put_all};
 
@@ -10,8 +10,16 @@ use indexmap::IndexMap;
 use serde_json::{Map, Value};
 use std::alloc::{AllocError, Global};
 
-/// Puts a member in, in the place of what has its name. Refused for want of memory alone.
+// Puts a tree in under the name.
 #[tactic(auto, using(crate::specs::laws::Pairs::put_entry))]
+fn put_tree(members: &mut Map<String, Value>, name: String, tree: Value) -> Result<(), AllocError>
+    ensures { OnOk result (members_view members.new.entries ≡ put_member (string_bytes name) (view tree) (members_view members.old.entries)) }
+{
+    drop(members.insert(name, tree)?);
+    Ok(())
+}
+
+/// Puts a member in, in the place of what has its name. Refused for want of memory alone.
 pub fn put<T: JsonForm>(
     alloc: Global,
     members: &mut Map<String, Value>,
@@ -20,13 +28,11 @@ pub fn put<T: JsonForm>(
 ) -> Result<(), AllocError>
     ensures { OnOk result (members_view members.new.entries ≡ put_member name.now (T.tree_of (T.stands_for value.now)) (members_view members.old.entries)) }
 {
-    let tree = value.to_tree(alloc)?;
-    drop(members.insert(String::from_str(alloc, name)?, tree)?);
-    Ok(())
+    let name = String::from_str(alloc, name)?;
+    put_tree(members, name, value.to_tree(alloc)?)
 }
 
 /// Puts a text in, likewise.
-#[tactic(auto, using(crate::specs::laws::Pairs::put_entry))]
 pub fn put_text(
     alloc: Global,
     members: &mut Map<String, Value>,
@@ -35,9 +41,8 @@ pub fn put_text(
 ) -> Result<(), AllocError>
     ensures { OnOk result (members_view members.new.entries ≡ put_member name.now (string text.now) (members_view members.old.entries)) }
 {
-    let tree = Value::try_from_str(alloc, text)?;
-    drop(members.insert(String::from_str(alloc, name)?, tree)?);
-    Ok(())
+    let name = String::from_str(alloc, name)?;
+    put_tree(members, name, Value::try_from_str(alloc, text)?)
 }
 
 /// Puts a member in where there is one, likewise.
@@ -55,6 +60,14 @@ pub fn put_optional<T: JsonForm>(
     Ok(())
 }
 
+// Puts a copy of a tree in under a copy of the name.
+fn put_copy(members: &mut Map<String, Value>, name: &String, tree: &Value) -> Result<(), AllocError>
+    ensures { OnOk result (members_view members.new.entries ≡ put_member (string_bytes name.now) (view tree.now) (members_view members.old.entries)) }
+{
+    let name = name.clone()?;
+    put_tree(members, name, tree.clone()?)
+}
+
 /// The members of an object that holds these: in the order of their names' bytes. Refused for want of memory alone.
 pub fn members_of(
     alloc: Global,
@@ -64,7 +77,7 @@ pub fn members_of(
 {
     let mut members = Map::new(alloc);
     for (name, value) in additional.iter() {
-        drop(members.insert(name.clone()?, value.clone()?)?);
+        put_copy(&mut members, name, value)?;
     }
     Ok(members)
 }

@@ -65,11 +65,12 @@ fn entry_of(alloc: Global, taken: TakenKey<'_>) -> Result<RingEntry, KeysFault>
         Ok(key) => key,
         Err(error) => return Err(KeysFault::from(error)),
     };
-    if !algorithm.is_of_family(&key) {
-        let name = KeyName(String::from_str(alloc, name)?);
-        return Err(KeysFault::AlgorithmFamily { name });
+    if algorithm.is_of_family(&key) {
+        return Ok(RingEntry::Verify { key, algorithm });
     }
-    Ok(RingEntry::Verify { key, algorithm })
+    drop(key);
+    let name = KeyName(String::from_str(alloc, name)?);
+    Err(KeysFault::AlgorithmFamily { name })
 }
 
 // Puts the entry of a key that is taken into the ring.
@@ -77,12 +78,14 @@ fn entry_of(alloc: Global, taken: TakenKey<'_>) -> Result<RingEntry, KeysFault>
 fn add(alloc: Global, ring: &mut Ring, taken: TakenKey<'_>) -> Result<(), KeysFault>
     ensures { Meets (λ _. ring.new) keys_fault result (key_table ring.old (taken_view taken.entry)) }
 {
-    let entry = match entry_of(alloc, taken) {
-        Ok(entry) => entry,
-        Err(fault) => return Err(fault),
-    };
     let name = KeyName(String::from_str(alloc, taken.name)?);
-    ring.insert(name, entry)
+    match entry_of(alloc, taken) {
+        Ok(entry) => ring.insert(name, entry),
+        Err(fault) => {
+            drop(name);
+            Err(fault)
+        }
+    }
 }
 
 // The same, where the key is taken.

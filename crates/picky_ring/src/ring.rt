@@ -141,6 +141,7 @@ impl Ring {
         ensures err { OnErr result (self.new ≡ self.old) }
     {
         if look_up(&self.entries, name.0.as_str()).is_some() {
+            drop(entry);
             return Err(KeysFault::DuplicateName { name });
         }
         put(&mut self.entries, name.0, entry)?;

@@ -1,17 +1,19 @@
 -- A tree tells one header at most.
-use Rattle.std.proofs.Common.{◌≡◌, codes, sym, ◌∙◌}
+use Rattle.std.proofs.Common.{◌≡◌, codes, IfOk, Result, Ok, Err, sym, ◌∙◌}
 use Rattle.serde_json.specs.Data.{Data}
 use Rattle.picky_json.specs.Tree.{member}
-use Rattle.picky_members.specs.Members.{IsMember, IsOptional, IsText, IsList}
-use Rattle.picky_members.specs.Names.{others}
+use Rattle.picky_members.specs.Members.{IsText, IsList}
 use Rattle.picky_members.specs.laws.Once.{Once, NotNull, member_once, optional_once, either_once, list_once}
 use Rattle.picky_members.specs.laws.Lists.{list_not_null}
+use Rattle.picky_members.specs.Reading.{Reads}
+use Rattle.picky_members.specs.declared.form.FormError.{FormError}
 use Rattle.picky_jwk_names.specs.Names.{IsAlg}
 use Rattle.picky_jwk_names.specs.laws.Names.{alg_once}
 use Rattle.picky_jwk.specs.Jwk.{JwkOf}
 use Rattle.picky_jwk.specs.laws.Once.{jwk_once, jwk_not_null}
-use Rattle.picky_jws_header.specs.Header.{Header, registered, JwsHeaderOf}
-use Rattle.picky_jws_header.specs.Parts.{Signer, SignerOf, Certificates, CertificatesOf}
+use Rattle.picky_jws_header.specs.Header.{Header, JwsHeaderOf}
+use Rattle.picky_jws_header.specs.Views.{header_view}
+use Rattle.picky_jws_header.specs.declared.header.JwsHeader.{JwsHeader}
 
 text_once : Once IsText
 text_once d x y h k = cc
@@ -34,28 +36,7 @@ header_once t x y h k = λ i. record {
   additional = (k.additional ∙ sym h.additional) i;
 }
 
--- ---- a header and its parts
-
--- the members of a header, where its parts tell theirs
-pub header_whole : (t : Data) (h : Header) → IsMember IsAlg (member (codes "alg") t) h.alg → IsOptional IsText (member (codes "typ") t) h.typ → IsOptional IsText (member (codes "cty") t) h.cty
-    → SignerOf t (record { jku = h.jku; jwk = h.jwk; kid = h.kid }) → CertificatesOf t (record { x5u = h.x5u; x5c = h.x5c; x5t = h.x5t; x5t_s256 = h.x5t_s256 })
-    → h.additional ≡ others registered t → JwsHeaderOf t h
-header_whole t h alg typ cty s c additional = record {
-  alg = alg;
-  jku = s.jku;
-  jwk = s.jwk;
-  typ = typ;
-  cty = cty;
-  kid = s.kid;
-  x5u = c.x5u;
-  x5c = c.x5c;
-  x5t = c.x5t;
-  x5t_s256 = c.x5t_s256;
-  additional = additional;
-}
-
-pub signer_part : (t : Data) (y : Header) → JwsHeaderOf t y → (s : Signer) × SignerOf t s
-signer_part t y h = (record { jku = y.jku; jwk = y.jwk; kid = y.kid }, record { jku = h.jku; jwk = h.jwk; kid = h.kid })
-
-pub certificates_part : (t : Data) (y : Header) → JwsHeaderOf t y → (c : Certificates) × CertificatesOf t c
-certificates_part t y h = (record { x5u = y.x5u; x5c = y.x5c; x5t = y.x5t; x5t_s256 = y.x5t_s256 }, record { x5u = h.x5u; x5c = h.x5c; x5t = h.x5t; x5t_s256 = h.x5t_s256 })
+-- what is read is the one header that the tree tells
+pub header_only : (t : Data) (r : Result JwsHeader FormError) → Reads header_view (JwsHeaderOf t) r → IfOk r (λ h. (x : Header) → JwsHeaderOf t x → x ≡ header_view h)
+header_only t (Ok h) found = λ x k. header_once t (header_view h) x found k
+header_only t (Err e) found = tt
