@@ -4,7 +4,7 @@ use Rattle.std.proofs.Common.{◌≡◌, refl, inl, inr}
 use Rattle.picky_asn1_oid.specs.Arcs.{continued, base128}
 use Rattle.picky_der.specs.Form.{Form}
 use Rattle.picky_fields.specs.Algorithm.{algorithm_of, parts_of}
-use Rattle.picky_fields.specs.Fields.{identifier, octet_string, one, seen, sequence}
+use Rattle.picky_fields.specs.Fields.{Fields, identifier, octet_string, one, seen, sequence}
 use Rattle.picky_fields.specs.Choice.{Cases, told_by}
 use Rattle.picky_fields.specs.Names.{among}
 use Rattle.picky_fields.specs.laws.Fields.{Lawful, one_lawful, one_to_one, seen_lawful, sequence_lawful}
@@ -46,8 +46,11 @@ scheme_parts (Unknown a) = inr (parts_of a)
 unfoldable pub scheme_cases : Cases (List ℕ) SchemeValue
 scheme_cases = among (λ k. arcs (aes_id k)) aes_name (one octet_string) other_algorithm
 
+unfoldable pub scheme_fields : Fields Pbes2Scheme
+scheme_fields = seen scheme_of scheme_parts (told_by identifier scheme_cases)
+
 unfoldable pub scheme : Form Pbes2Scheme
-scheme = sequence (seen scheme_of scheme_parts (told_by identifier scheme_cases))
+scheme = sequence scheme_fields
 
 -- ---- laws
 
@@ -70,5 +73,5 @@ unfolding scheme_cases aes_name
 scheme_cases_lawful = among_lawful (names_of aes_id aes_kinds aes_named) (one_lawful octets_lawful) other_lawful
 
 pub scheme_lawful : Lawful scheme
-unfolding scheme
+unfolding scheme scheme_fields
 scheme_lawful = sequence_lawful (seen_lawful (one_to_one {to = scheme_of} {from = scheme_parts} scheme_back scheme_forth) (told_lawful identifier_lawful scheme_cases_lawful))

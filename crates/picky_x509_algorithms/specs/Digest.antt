@@ -2,7 +2,7 @@
 use Rattle.std.proofs.Common.{◌≡◌, refl, inl, inr}
 use Rattle.picky_der.specs.Form.{Form}
 use Rattle.picky_fields.specs.Algorithm.{algorithm_of, parts_of}
-use Rattle.picky_fields.specs.Fields.{identifier, seen, sequence}
+use Rattle.picky_fields.specs.Fields.{Fields, identifier, seen, sequence}
 use Rattle.picky_fields.specs.Choice.{told_by}
 use Rattle.picky_fields.specs.laws.Fields.{Lawful, one_to_one, seen_lawful, sequence_lawful}
 use Rattle.picky_fields.specs.laws.Choice.{told_lawful}
@@ -32,8 +32,11 @@ digest_parts Sha384 = inl (hash.Sha384, tt)
 digest_parts Sha512 = inl (hash.Sha512, tt)
 digest_parts (Unknown a) = inr (parts_of a)
 
+unfoldable pub digest_fields : Fields Pkcs12DigestAlgorithm
+digest_fields = seen digest_of digest_parts (told_by identifier digest_cases)
+
 unfoldable pub digest : Form Pkcs12DigestAlgorithm
-digest = sequence (seen digest_of digest_parts (told_by identifier digest_cases))
+digest = sequence digest_fields
 
 digest_back : (d : Pkcs12DigestAlgorithm) → digest_of (digest_parts d) ≡ d
 digest_back Sha1 = refl
@@ -55,5 +58,5 @@ digest_forth (inl p) = named_forth p.0
 digest_forth (inr p) = refl
 
 pub digest_lawful : Lawful digest
-unfolding digest
+unfolding digest digest_fields
 digest_lawful = sequence_lawful (seen_lawful (one_to_one {to = digest_of} {from = digest_parts} digest_back digest_forth) (told_lawful identifier_lawful digest_cases_lawful))

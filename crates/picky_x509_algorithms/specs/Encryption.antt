@@ -3,7 +3,7 @@ use Rattle.std.specs.Prelude.{ℕ, List, Option, ◌⊎◌}
 use Rattle.std.proofs.Common.{◌≡◌, refl, inl, inr}
 use Rattle.picky_der.specs.Form.{Form}
 use Rattle.picky_fields.specs.Algorithm.{algorithm_of, parts_of}
-use Rattle.picky_fields.specs.Fields.{identifier, one, ◌and◌, seen, sequence}
+use Rattle.picky_fields.specs.Fields.{Fields, identifier, one, ◌and◌, seen, sequence}
 use Rattle.picky_fields.specs.Choice.{Cases, case, told_by}
 use Rattle.picky_fields.specs.Names.{among}
 use Rattle.picky_fields.specs.laws.Fields.{Lawful, one_lawful, and_lawful, one_to_one, seen_lawful, sequence_lawful}
@@ -30,8 +30,11 @@ pbes2_of x = record { kdf = x.0; scheme = x.1 }
 abbrev pub pbes2_parts : Pbes2Params → Pbes2Kdf × Pbes2Scheme
 pbes2_parts p = (p.kdf, p.scheme)
 
+unfoldable pub pbes2_fields : Fields Pbes2Params
+pbes2_fields = seen pbes2_of pbes2_parts (one kdf and one scheme)
+
 unfoldable pub pbes2_params : Form Pbes2Params
-pbes2_params = sequence (seen pbes2_of pbes2_parts (one kdf and one scheme))
+pbes2_params = sequence pbes2_fields
 
 abbrev pub EncryptionValue : Type 0
 EncryptionValue = (Pbes1Cipher × Pbes1Params) ⊎ (Pbes2Params ⊎ (List ℕ × Option (List ℕ)))
@@ -49,13 +52,16 @@ encryption_parts (Unknown a) = inr (inr (parts_of a))
 unfoldable pub encryption_cases : Cases (List ℕ) EncryptionValue
 encryption_cases = among (λ c. arcs (cipher_id c)) cipher_name (one pbes1_params) (case (arcs known.Pbes2) (is_known known.Pbes2) (one pbes2_params) other_algorithm)
 
+unfoldable pub encryption_fields : Fields Pkcs12EncryptionAlgorithm
+encryption_fields = seen encryption_of encryption_parts (told_by identifier encryption_cases)
+
 unfoldable pub encryption : Form Pkcs12EncryptionAlgorithm
-encryption = sequence (seen encryption_of encryption_parts (told_by identifier encryption_cases))
+encryption = sequence encryption_fields
 
 -- ---- laws
 
 pub pbes2_params_lawful : Lawful pbes2_params
-unfolding pbes2_params
+unfolding pbes2_params pbes2_fields
 pbes2_params_lawful = sequence_lawful (seen_lawful (one_to_one {to = pbes2_of} {from = pbes2_parts} (λ _. refl) (λ _. refl)) (and_lawful (λ _ _. refl) (one_lawful kdf_lawful) (one_lawful scheme_lawful)))
 
 encryption_back : (a : Pkcs12EncryptionAlgorithm) → encryption_of (encryption_parts a) ≡ a
@@ -73,5 +79,5 @@ unfolding encryption_cases
 encryption_cases_lawful = among_lawful cipher_names (one_lawful pbes1_params_lawful) (case_lawful (tells known.Pbes2) (one_lawful pbes2_params_lawful) other_lawful)
 
 pub encryption_lawful : Lawful encryption
-unfolding encryption
+unfolding encryption encryption_fields
 encryption_lawful = sequence_lawful (seen_lawful (one_to_one {to = encryption_of} {from = encryption_parts} encryption_back encryption_forth) (told_lawful identifier_lawful encryption_cases_lawful))

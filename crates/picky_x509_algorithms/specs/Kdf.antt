@@ -3,7 +3,7 @@ use Rattle.std.specs.Prelude.{ℕ, List, Option, ◌⊎◌}
 use Rattle.std.proofs.Common.{◌≡◌, refl, inl, inr}
 use Rattle.picky_der.specs.Form.{Form}
 use Rattle.picky_fields.specs.Algorithm.{algorithm_of, parts_of}
-use Rattle.picky_fields.specs.Fields.{identifier, one, seen, sequence}
+use Rattle.picky_fields.specs.Fields.{Fields, identifier, one, seen, sequence}
 use Rattle.picky_fields.specs.Choice.{Cases, case, told_by}
 use Rattle.picky_fields.specs.laws.Fields.{Lawful, one_lawful, one_to_one, seen_lawful, sequence_lawful}
 use Rattle.picky_fields.specs.laws.Choice.{LawfulCases, case_lawful, told_lawful}
@@ -31,8 +31,11 @@ kdf_parts (Unknown a) = inr (parts_of a)
 unfoldable pub kdf_cases : Cases (List ℕ) KdfValue
 kdf_cases = case (arcs known.Pbkdf2) (is_known known.Pbkdf2) (one pbkdf2) other_algorithm
 
+unfoldable pub kdf_fields : Fields Pbes2Kdf
+kdf_fields = seen kdf_of kdf_parts (told_by identifier kdf_cases)
+
 unfoldable pub kdf : Form Pbes2Kdf
-kdf = sequence (seen kdf_of kdf_parts (told_by identifier kdf_cases))
+kdf = sequence kdf_fields
 
 -- ---- laws
 
@@ -49,5 +52,5 @@ unfolding kdf_cases
 kdf_cases_lawful = case_lawful (tells known.Pbkdf2) (one_lawful pbkdf2_lawful) other_lawful
 
 pub kdf_lawful : Lawful kdf
-unfolding kdf
+unfolding kdf kdf_fields
 kdf_lawful = sequence_lawful (seen_lawful (one_to_one {to = kdf_of} {from = kdf_parts} kdf_back kdf_forth) (told_lawful identifier_lawful kdf_cases_lawful))

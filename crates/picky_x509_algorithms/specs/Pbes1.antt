@@ -3,7 +3,7 @@ use Rattle.std.specs.Prelude.{ℕ, List, [], ◌∷◌, Option, Some}
 use Rattle.std.proofs.Common.{◌≡◌, refl}
 use Rattle.picky_asn1_oid.specs.Arcs.{continued, base128}
 use Rattle.picky_der.specs.Form.{Form}
-use Rattle.picky_fields.specs.Fields.{octet_string, identifier, one, ◌and◌, seen, sequence}
+use Rattle.picky_fields.specs.Fields.{Fields, octet_string, identifier, one, ◌and◌, seen, sequence}
 use Rattle.picky_fields.specs.Names.{Names}
 use Rattle.picky_fields.specs.laws.Fields.{Lawful, one_lawful, and_lawful, one_to_one, seen_lawful, sequence_lawful}
 use Rattle.picky_fields.specs.laws.Plain.{octets_lawful}
@@ -22,11 +22,14 @@ pbes1_of x = record { salt = x.0; iterations = x.1 }
 abbrev pub pbes1_parts : Pbes1Params → List ℕ × ℕ
 pbes1_parts p = (p.salt, p.iterations)
 
+unfoldable pub pbes1_fields : Fields Pbes1Params
+pbes1_fields = seen pbes1_of pbes1_parts (one octet_string and one count)
+
 unfoldable pub pbes1_params : Form Pbes1Params
-pbes1_params = sequence (seen pbes1_of pbes1_parts (one octet_string and one count))
+pbes1_params = sequence pbes1_fields
 
 pub pbes1_params_lawful : Lawful pbes1_params
-unfolding pbes1_params
+unfolding pbes1_params pbes1_fields
 pbes1_params_lawful = sequence_lawful (seen_lawful (one_to_one {to = pbes1_of} {from = pbes1_parts} (λ _. refl) (λ _. refl)) (and_lawful (λ _ _. refl) (one_lawful octets_lawful) (one_lawful count_lawful)))
 
 -- ---- ciphers

@@ -2,7 +2,7 @@
 use Rattle.std.proofs.Common.{◌≡◌, refl, inl, inr}
 use Rattle.picky_der.specs.Form.{Form}
 use Rattle.picky_fields.specs.Algorithm.{algorithm_of, parts_of}
-use Rattle.picky_fields.specs.Fields.{identifier, seen, sequence}
+use Rattle.picky_fields.specs.Fields.{Fields, identifier, seen, sequence}
 use Rattle.picky_fields.specs.Choice.{told_by}
 use Rattle.picky_fields.specs.laws.Fields.{Lawful, one_to_one, seen_lawful, sequence_lawful}
 use Rattle.picky_fields.specs.laws.Choice.{told_lawful}
@@ -32,8 +32,11 @@ prf_parts HmacWithSha384 = inl (hash.Sha384, tt)
 prf_parts HmacWithSha512 = inl (hash.Sha512, tt)
 prf_parts (Unknown a) = inr (parts_of a)
 
+unfoldable pub prf_fields : Fields Pbkdf2Prf
+prf_fields = seen prf_of prf_parts (told_by identifier prf_cases)
+
 unfoldable pub prf : Form Pbkdf2Prf
-prf = sequence (seen prf_of prf_parts (told_by identifier prf_cases))
+prf = sequence prf_fields
 
 prf_back : (p : Pbkdf2Prf) → prf_of (prf_parts p) ≡ p
 prf_back HmacWithSha1 = refl
@@ -55,5 +58,5 @@ prf_forth (inl p) = named_forth p.0
 prf_forth (inr p) = refl
 
 pub prf_lawful : Lawful prf
-unfolding prf
+unfolding prf prf_fields
 prf_lawful = sequence_lawful (seen_lawful (one_to_one {to = prf_of} {from = prf_parts} prf_back prf_forth) (told_lawful identifier_lawful prf_cases_lawful))

@@ -1,17 +1,19 @@
 // Schemes of PBES2.
 ghost use Rattle.std.specs.Prelude.{◌≡◌, IfOk};
-ghost use Rattle.picky_der.specs.Reading.{Reads};
-ghost use Rattle.picky_fields.specs.Fields.{seen_at};
+ghost use Rattle.picky_fields.specs.Records.{fields_by};
 ghost use Rattle.picky_x509_algorithms.specs.declared.aes.AesCbcKind.{AesCbcKind as Kind};
 ghost use Rattle.picky_x509_algorithms.specs.declared.aes.Pbes2Scheme.{Pbes2Scheme as Scheme};
-ghost use Rattle.picky_x509_algorithms.specs.Aes.{aes_id, aes_name, scheme_of, scheme_cases, scheme, scheme_lawful};
+ghost use Rattle.picky_x509_algorithms.specs.Aes.{aes_id, aes_name, scheme_fields, scheme, scheme_lawful};
 
-use crate::known_identifier::KnownIdentifier;
+use crate::known_identifier::{KnownIdentifier, named};
+use crate::writing::write_algorithm;
 use picky_asn1_oid::ObjectIdentifier;
 use picky_asn1_tag::{Asn1Value, CopyIn, Tag};
 use picky_contract::Bytes;
-use picky_der::{DerError, DerForm, DerRead, DerReader, DerWrite, write_value};
-use picky_fields::{AlgorithmIdentifier, read_last, read_octets, write_octets};
+use picky_der::{DerError, DerForm, DerRead, DerReader, DerWrite};
+use picky_fields::{
+    AlgorithmIdentifier, DerRecord, read_last, read_octets, read_record, write_octets, write_record,
+};
 use std::alloc::{AllocError, Global};
 
 /// AES by the size of its key (FIPS 197), in CBC mode.
@@ -42,16 +44,19 @@ impl AesCbcKind {
     pub fn of_identifier(oid: &ObjectIdentifier) -> Option<AesCbcKind>
         ensures { result ≡ aes_name oid.now }
     {
-        if KnownIdentifier::Aes128Cbc.is(oid) {
-            return Some(AesCbcKind::Aes128);
-        }
-        if KnownIdentifier::Aes192Cbc.is(oid) {
-            return Some(AesCbcKind::Aes192);
-        }
-        if KnownIdentifier::Aes256Cbc.is(oid) {
-            return Some(AesCbcKind::Aes256);
-        }
-        None
+        let from_256_bits = named(KnownIdentifier::Aes256Cbc, AesCbcKind::Aes256, oid, None);
+        let from_192_bits = named(
+            KnownIdentifier::Aes192Cbc,
+            AesCbcKind::Aes192,
+            oid,
+            from_256_bits,
+        );
+        named(
+            KnownIdentifier::Aes128Cbc,
+            AesCbcKind::Aes128,
+            oid,
+            from_192_bits,
+        )
     }
 }
 
@@ -119,20 +124,30 @@ impl DerForm for Pbes2Scheme {
     ghost same_value = { λ _ _ e. e };
 }
 
-#[tactic(auto, unfolding(crate::specs::Aes::scheme_cases, crate::specs::Identifiers::other_algorithm))]
-fn read_parameters(
-    alloc: Global,
-    oid: ObjectIdentifier,
-    reader: &mut DerReader<'_>,
-) -> Result<Pbes2Scheme, DerError>
-    ensures { Reads (λ s. s) (seen_at scheme_of (scheme_cases.reading oid)) reader.old result reader.new }
-{
-    if let Some(kind) = AesCbcKind::of_identifier(&oid) {
-        let iv = Bytes::new(read_octets(alloc, reader)?);
-        return Ok(Pbes2Scheme::AesCbc { kind, iv });
+impl DerRecord for Pbes2Scheme {
+    ghost fields = { fields_by (λ x. x) scheme_fields };
+
+    #[tactic(auto, unfolding(crate::specs::Aes::scheme_fields, crate::specs::Aes::scheme_cases, crate::specs::Identifiers::other_algorithm))]
+    fn read_fields(alloc: Global, reader: &mut DerReader<'_>) -> Result<Pbes2Scheme, DerError> {
+        let oid = ObjectIdentifier::read_der(alloc, reader)?;
+        if let Some(kind) = AesCbcKind::of_identifier(&oid) {
+            let iv = Bytes::new(read_octets(alloc, reader)?);
+            return Ok(Pbes2Scheme::AesCbc { kind, iv });
+        }
+        let parameters = read_last(alloc, reader)?;
+        Ok(Pbes2Scheme::Unknown(AlgorithmIdentifier { oid, parameters }))
     }
-    let parameters = read_last(alloc, reader)?;
-    Ok(Pbes2Scheme::Unknown(AlgorithmIdentifier { oid, parameters }))
+
+    #[tactic(auto, unfolding(crate::specs::Aes::scheme_fields, crate::specs::Aes::scheme_cases, crate::specs::Identifiers::other_algorithm))]
+    fn write_fields(&self, alloc: Global, out: &mut Vec<u8>) -> Result<(), DerError> {
+        match self {
+            Pbes2Scheme::AesCbc { kind, iv } => {
+                kind.identifier().write(out)?;
+                write_octets(iv.as_slice(), out)
+            }
+            Pbes2Scheme::Unknown(algorithm) => write_algorithm(alloc, algorithm, out),
+        }
+    }
 }
 
 impl DerRead for Pbes2Scheme {
@@ -141,32 +156,18 @@ impl DerRead for Pbes2Scheme {
         tag == Tag::SEQUENCE
     }
 
-    #[tactic(auto, unfolding(crate::specs::Aes::scheme, picky_fields::specs::Fields::enclosed_at, picky_fields::specs::Fields::run_at))]
+    #[tactic(auto, unfolding(crate::specs::Aes::scheme))]
     fn read_der(alloc: Global, reader: &mut DerReader<'_>) -> Result<Pbes2Scheme, DerError> {
-        let mut ahead = reader.fork();
-        let mut fields = ahead.nested(Tag::SEQUENCE)?;
-        let oid = ObjectIdentifier::read_der(alloc, &mut fields)?;
-        let scheme = read_parameters(alloc, oid, &mut fields)?;
-        fields.end()?;
-        *reader = ahead;
-        Ok(scheme)
+        read_record(alloc, reader)
     }
 
     ghost readable = { scheme_lawful.readable };
 }
 
 impl DerWrite for Pbes2Scheme {
-    #[tactic(auto, unfolding(crate::specs::Aes::scheme, crate::specs::Aes::scheme_cases, crate::specs::Identifiers::other_algorithm, picky_fields::specs::Algorithm::algorithm))]
+    #[tactic(auto, unfolding(crate::specs::Aes::scheme))]
     fn write_der(&self, alloc: Global, out: &mut Vec<u8>) -> Result<(), DerError> {
-        match self {
-            Pbes2Scheme::AesCbc { kind, iv } => {
-                let mut fields = Vec::new(alloc);
-                kind.identifier().write(&mut fields)?;
-                write_octets(iv.as_slice(), &mut fields)?;
-                write_value(out, Tag::SEQUENCE, &fields)
-            }
-            Pbes2Scheme::Unknown(algorithm) => algorithm.write_der(alloc, out),
-        }
+        write_record(alloc, self, out)
     }
 
     ghost writable = { scheme_lawful.writable };

@@ -1,17 +1,17 @@
 // Hash functions in containers.
 ghost use Rattle.std.specs.Prelude.{◌≡◌, IfOk};
-ghost use Rattle.picky_der.specs.Reading.{Reads};
-ghost use Rattle.picky_fields.specs.Fields.{seen_at};
+ghost use Rattle.picky_fields.specs.Records.{fields_by};
 ghost use Rattle.picky_x509_algorithms.specs.declared.digest.Pkcs12DigestAlgorithm.{Pkcs12DigestAlgorithm as Digest};
-ghost use Rattle.picky_x509_algorithms.specs.Hashes.{digest_cases};
-ghost use Rattle.picky_x509_algorithms.specs.Digest.{digest_by, digest_of, digest, digest_lawful};
+ghost use Rattle.picky_x509_algorithms.specs.Digest.{digest_by, digest_fields, digest, digest_lawful};
 
 use crate::hash_name::HashName;
-use crate::writing::write_with_null;
+use crate::writing::{write_algorithm, write_with_null};
 use picky_asn1_oid::ObjectIdentifier;
 use picky_asn1_tag::{Asn1Value, CopyIn, Tag};
 use picky_der::{DerError, DerForm, DerRead, DerReader, DerWrite};
-use picky_fields::{AlgorithmIdentifier, read_last, read_null_or_none};
+use picky_fields::{
+    AlgorithmIdentifier, DerRecord, read_last, read_null_or_none, read_record, write_record,
+};
 use std::alloc::{AllocError, Global};
 
 /// A hash function, told by its identifier (RFC 8017 appendix B.1).
@@ -86,20 +86,37 @@ fn digest_by(hash: HashName) -> Pkcs12DigestAlgorithm
     }
 }
 
-#[tactic(auto, unfolding(crate::specs::Hashes::digest_cases, crate::specs::Identifiers::other_algorithm))]
-fn read_parameters(
-    alloc: Global,
-    oid: ObjectIdentifier,
-    reader: &mut DerReader<'_>,
-) -> Result<Pkcs12DigestAlgorithm, DerError>
-    ensures { Reads (λ d. d) (seen_at digest_of (digest_cases.reading oid)) reader.old result reader.new }
-{
-    if let Some(hash) = HashName::of_digest(&oid) {
-        read_null_or_none(alloc, reader)?;
-        return Ok(digest_by(hash));
+impl DerRecord for Pkcs12DigestAlgorithm {
+    ghost fields = { fields_by (λ x. x) digest_fields };
+
+    #[tactic(auto, unfolding(crate::specs::Digest::digest_fields, crate::specs::Hashes::digest_cases, crate::specs::Identifiers::other_algorithm))]
+    fn read_fields(
+        alloc: Global,
+        reader: &mut DerReader<'_>,
+    ) -> Result<Pkcs12DigestAlgorithm, DerError> {
+        let oid = ObjectIdentifier::read_der(alloc, reader)?;
+        if let Some(hash) = HashName::of_digest(&oid) {
+            read_null_or_none(alloc, reader)?;
+            return Ok(digest_by(hash));
+        }
+        let parameters = read_last(alloc, reader)?;
+        Ok(Pkcs12DigestAlgorithm::Unknown(AlgorithmIdentifier { oid, parameters }))
     }
-    let parameters = read_last(alloc, reader)?;
-    Ok(Pkcs12DigestAlgorithm::Unknown(AlgorithmIdentifier { oid, parameters }))
+
+    #[tactic(auto, unfolding(crate::specs::Digest::digest_fields, crate::specs::Hashes::digest_cases, crate::specs::Identifiers::other_algorithm))]
+    fn write_fields(&self, alloc: Global, out: &mut Vec<u8>) -> Result<(), DerError> {
+        let hash = match self {
+            Pkcs12DigestAlgorithm::Sha1 => HashName::Sha1,
+            Pkcs12DigestAlgorithm::Sha224 => HashName::Sha224,
+            Pkcs12DigestAlgorithm::Sha256 => HashName::Sha256,
+            Pkcs12DigestAlgorithm::Sha384 => HashName::Sha384,
+            Pkcs12DigestAlgorithm::Sha512 => HashName::Sha512,
+            Pkcs12DigestAlgorithm::Unknown(algorithm) => return write_algorithm(
+                alloc, algorithm, out,
+            ),
+        };
+        write_with_null(alloc, hash.digest_identifier(), out)
+    }
 }
 
 impl DerRead for Pkcs12DigestAlgorithm {
@@ -108,35 +125,21 @@ impl DerRead for Pkcs12DigestAlgorithm {
         tag == Tag::SEQUENCE
     }
 
-    #[tactic(auto, unfolding(crate::specs::Digest::digest, picky_fields::specs::Fields::enclosed_at, picky_fields::specs::Fields::run_at))]
+    #[tactic(auto, unfolding(crate::specs::Digest::digest))]
     fn read_der(
         alloc: Global,
         reader: &mut DerReader<'_>,
     ) -> Result<Pkcs12DigestAlgorithm, DerError> {
-        let mut ahead = reader.fork();
-        let mut fields = ahead.nested(Tag::SEQUENCE)?;
-        let oid = ObjectIdentifier::read_der(alloc, &mut fields)?;
-        let digest = read_parameters(alloc, oid, &mut fields)?;
-        fields.end()?;
-        *reader = ahead;
-        Ok(digest)
+        read_record(alloc, reader)
     }
 
     ghost readable = { digest_lawful.readable };
 }
 
 impl DerWrite for Pkcs12DigestAlgorithm {
-    #[tactic(auto, unfolding(crate::specs::Digest::digest, crate::specs::Hashes::digest_cases, crate::specs::Identifiers::other_algorithm, picky_fields::specs::Algorithm::algorithm))]
+    #[tactic(auto, unfolding(crate::specs::Digest::digest))]
     fn write_der(&self, alloc: Global, out: &mut Vec<u8>) -> Result<(), DerError> {
-        let hash = match self {
-            Pkcs12DigestAlgorithm::Sha1 => HashName::Sha1,
-            Pkcs12DigestAlgorithm::Sha224 => HashName::Sha224,
-            Pkcs12DigestAlgorithm::Sha256 => HashName::Sha256,
-            Pkcs12DigestAlgorithm::Sha384 => HashName::Sha384,
-            Pkcs12DigestAlgorithm::Sha512 => HashName::Sha512,
-            Pkcs12DigestAlgorithm::Unknown(algorithm) => return algorithm.write_der(alloc, out),
-        };
-        write_with_null(alloc, hash.digest_identifier(), out)
+        write_record(alloc, self, out)
     }
 
     ghost writable = { digest_lawful.writable };

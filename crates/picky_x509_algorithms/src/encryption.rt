@@ -1,19 +1,19 @@
 // Encryption algorithms.
 ghost use Rattle.std.specs.Prelude.{◌≡◌, IfOk};
-ghost use Rattle.picky_der.specs.Reading.{Reads};
-ghost use Rattle.picky_fields.specs.Fields.{seen_at};
+ghost use Rattle.picky_fields.specs.Records.{fields_by};
 ghost use Rattle.picky_x509_algorithms.specs.declared.encryption.Pbes2Params.{Pbes2Params as Parameters};
 ghost use Rattle.picky_x509_algorithms.specs.declared.encryption.Pkcs12EncryptionAlgorithm.{Pkcs12EncryptionAlgorithm as Encryption};
-ghost use Rattle.picky_x509_algorithms.specs.Encryption.{pbes2_params, pbes2_params_lawful, encryption_of, encryption_cases, encryption, encryption_lawful};
+ghost use Rattle.picky_x509_algorithms.specs.Encryption.{pbes2_fields, pbes2_params, pbes2_params_lawful, encryption_fields, encryption, encryption_lawful};
 
 use crate::aes::Pbes2Scheme;
 use crate::kdf::Pbes2Kdf;
 use crate::known_identifier::KnownIdentifier;
 use crate::pbes1::{Pbes1Cipher, Pbes1Params};
+use crate::writing::write_algorithm;
 use picky_asn1_oid::ObjectIdentifier;
 use picky_asn1_tag::{Asn1Value, CopyIn, Tag};
-use picky_der::{DerError, DerForm, DerRead, DerReader, DerWrite, write_value};
-use picky_fields::{AlgorithmIdentifier, read_last};
+use picky_der::{DerError, DerForm, DerRead, DerReader, DerWrite};
+use picky_fields::{AlgorithmIdentifier, DerRecord, read_last, read_record, write_record};
 use std::alloc::{AllocError, Global};
 
 /// Parameters of PBES2 (RFC 8018 appendix A.4).
@@ -30,10 +30,14 @@ impl Pbes2Params {
     pub fn clone(&self, alloc: Global) -> Result<Pbes2Params, AllocError>
         ensures { IfOk result (λ copy. copy ≡ self.now) }
     {
-        Ok(Pbes2Params {
-            kdf: self.kdf.clone(alloc)?,
-            scheme: self.scheme.clone(alloc)?,
-        })
+        let kdf = self.kdf.clone(alloc)?;
+        match self.scheme.clone(alloc) {
+            Ok(scheme) => Ok(Pbes2Params { kdf, scheme }),
+            Err(fault) => {
+                drop(kdf);
+                Err(fault)
+            }
+        }
     }
 }
 
@@ -60,21 +64,37 @@ impl DerForm for Pbes2Params {
     ghost same_value = { λ _ _ e. e };
 }
 
+impl DerRecord for Pbes2Params {
+    ghost fields = { fields_by (λ x. x) pbes2_fields };
+
+    #[tactic(auto, unfolding(crate::specs::Encryption::pbes2_fields))]
+    fn read_fields(alloc: Global, reader: &mut DerReader<'_>) -> Result<Pbes2Params, DerError> {
+        let kdf = Pbes2Kdf::read_der(alloc, reader)?;
+        match Pbes2Scheme::read_der(alloc, reader) {
+            Ok(scheme) => Ok(Pbes2Params { kdf, scheme }),
+            Err(fault) => {
+                drop(kdf);
+                Err(fault)
+            }
+        }
+    }
+
+    #[tactic(auto, unfolding(crate::specs::Encryption::pbes2_fields))]
+    fn write_fields(&self, alloc: Global, out: &mut Vec<u8>) -> Result<(), DerError> {
+        self.kdf.write_der(alloc, out)?;
+        self.scheme.write_der(alloc, out)
+    }
+}
+
 impl DerRead for Pbes2Params {
     #[tactic(auto, unfolding(crate::specs::Encryption::pbes2_params))]
     fn begins_with(tag: Tag) -> bool {
         tag == Tag::SEQUENCE
     }
 
-    #[tactic(auto, unfolding(crate::specs::Encryption::pbes2_params, picky_fields::specs::Fields::enclosed_at, picky_fields::specs::Fields::run_at))]
+    #[tactic(auto, unfolding(crate::specs::Encryption::pbes2_params))]
     fn read_der(alloc: Global, reader: &mut DerReader<'_>) -> Result<Pbes2Params, DerError> {
-        let mut ahead = reader.fork();
-        let mut fields = ahead.nested(Tag::SEQUENCE)?;
-        let kdf = Pbes2Kdf::read_der(alloc, &mut fields)?;
-        let scheme = Pbes2Scheme::read_der(alloc, &mut fields)?;
-        fields.end()?;
-        *reader = ahead;
-        Ok(Pbes2Params { kdf, scheme })
+        read_record(alloc, reader)
     }
 
     ghost readable = { pbes2_params_lawful.readable };
@@ -83,10 +103,7 @@ impl DerRead for Pbes2Params {
 impl DerWrite for Pbes2Params {
     #[tactic(auto, unfolding(crate::specs::Encryption::pbes2_params))]
     fn write_der(&self, alloc: Global, out: &mut Vec<u8>) -> Result<(), DerError> {
-        let mut fields = Vec::new(alloc);
-        self.kdf.write_der(alloc, &mut fields)?;
-        self.scheme.write_der(alloc, &mut fields)?;
-        write_value(out, Tag::SEQUENCE, &fields)
+        write_record(alloc, self, out)
     }
 
     ghost writable = { pbes2_params_lawful.writable };
@@ -153,24 +170,41 @@ impl DerForm for Pkcs12EncryptionAlgorithm {
     ghost same_value = { λ _ _ e. e };
 }
 
-#[tactic(auto, unfolding(crate::specs::Encryption::encryption_cases, crate::specs::Identifiers::other_algorithm))]
-fn read_parameters(
-    alloc: Global,
-    oid: ObjectIdentifier,
-    reader: &mut DerReader<'_>,
-) -> Result<Pkcs12EncryptionAlgorithm, DerError>
-    ensures { Reads (λ a. a) (seen_at encryption_of (encryption_cases.reading oid)) reader.old result reader.new }
-{
-    if let Some(kind) = Pbes1Cipher::of_identifier(&oid) {
-        let params = Pbes1Params::read_der(alloc, reader)?;
-        return Ok(Pkcs12EncryptionAlgorithm::Pbes1 { kind, params });
+impl DerRecord for Pkcs12EncryptionAlgorithm {
+    ghost fields = { fields_by (λ x. x) encryption_fields };
+
+    #[tactic(auto, unfolding(crate::specs::Encryption::encryption_fields, crate::specs::Encryption::encryption_cases, crate::specs::Identifiers::other_algorithm))]
+    fn read_fields(
+        alloc: Global,
+        reader: &mut DerReader<'_>,
+    ) -> Result<Pkcs12EncryptionAlgorithm, DerError> {
+        let oid = ObjectIdentifier::read_der(alloc, reader)?;
+        if let Some(kind) = Pbes1Cipher::of_identifier(&oid) {
+            let params = Pbes1Params::read_der(alloc, reader)?;
+            return Ok(Pkcs12EncryptionAlgorithm::Pbes1 { kind, params });
+        }
+        if KnownIdentifier::Pbes2.is(&oid) {
+            let params = Pbes2Params::read_der(alloc, reader)?;
+            return Ok(Pkcs12EncryptionAlgorithm::Pbes2(params));
+        }
+        let parameters = read_last(alloc, reader)?;
+        Ok(Pkcs12EncryptionAlgorithm::Unknown(AlgorithmIdentifier { oid, parameters }))
     }
-    if KnownIdentifier::Pbes2.is(&oid) {
-        let params = Pbes2Params::read_der(alloc, reader)?;
-        return Ok(Pkcs12EncryptionAlgorithm::Pbes2(params));
+
+    #[tactic(auto, unfolding(crate::specs::Encryption::encryption_fields, crate::specs::Encryption::encryption_cases, crate::specs::Identifiers::other_algorithm))]
+    fn write_fields(&self, alloc: Global, out: &mut Vec<u8>) -> Result<(), DerError> {
+        match self {
+            Pkcs12EncryptionAlgorithm::Pbes1 { kind, params } => {
+                kind.identifier().write(out)?;
+                params.write_der(alloc, out)
+            }
+            Pkcs12EncryptionAlgorithm::Pbes2(params) => {
+                KnownIdentifier::Pbes2.write(out)?;
+                params.write_der(alloc, out)
+            }
+            Pkcs12EncryptionAlgorithm::Unknown(algorithm) => write_algorithm(alloc, algorithm, out),
+        }
     }
-    let parameters = read_last(alloc, reader)?;
-    Ok(Pkcs12EncryptionAlgorithm::Unknown(AlgorithmIdentifier { oid, parameters }))
 }
 
 impl DerRead for Pkcs12EncryptionAlgorithm {
@@ -179,40 +213,21 @@ impl DerRead for Pkcs12EncryptionAlgorithm {
         tag == Tag::SEQUENCE
     }
 
-    #[tactic(auto, unfolding(crate::specs::Encryption::encryption, picky_fields::specs::Fields::enclosed_at, picky_fields::specs::Fields::run_at))]
+    #[tactic(auto, unfolding(crate::specs::Encryption::encryption))]
     fn read_der(
         alloc: Global,
         reader: &mut DerReader<'_>,
     ) -> Result<Pkcs12EncryptionAlgorithm, DerError> {
-        let mut ahead = reader.fork();
-        let mut fields = ahead.nested(Tag::SEQUENCE)?;
-        let oid = ObjectIdentifier::read_der(alloc, &mut fields)?;
-        let algorithm = read_parameters(alloc, oid, &mut fields)?;
-        fields.end()?;
-        *reader = ahead;
-        Ok(algorithm)
+        read_record(alloc, reader)
     }
 
     ghost readable = { encryption_lawful.readable };
 }
 
 impl DerWrite for Pkcs12EncryptionAlgorithm {
-    #[tactic(auto, unfolding(crate::specs::Encryption::encryption, crate::specs::Encryption::encryption_cases, crate::specs::Identifiers::other_algorithm, picky_fields::specs::Algorithm::algorithm))]
+    #[tactic(auto, unfolding(crate::specs::Encryption::encryption))]
     fn write_der(&self, alloc: Global, out: &mut Vec<u8>) -> Result<(), DerError> {
-        let mut fields = Vec::new(alloc);
-        match self {
-            Pkcs12EncryptionAlgorithm::Pbes1 { kind, params } => {
-                kind.identifier().write(&mut fields)?;
-                params.write_der(alloc, &mut fields)?;
-                write_value(out, Tag::SEQUENCE, &fields)
-            }
-            Pkcs12EncryptionAlgorithm::Pbes2(params) => {
-                KnownIdentifier::Pbes2.write(&mut fields)?;
-                params.write_der(alloc, &mut fields)?;
-                write_value(out, Tag::SEQUENCE, &fields)
-            }
-            Pkcs12EncryptionAlgorithm::Unknown(algorithm) => algorithm.write_der(alloc, out),
-        }
+        write_record(alloc, self, out)
     }
 
     ghost writable = { encryption_lawful.writable };

@@ -2,11 +2,11 @@
 ghost use Rattle.std.specs.Prelude.{◌≡◌};
 ghost use Rattle.picky_x509_algorithms.specs.Hashes.{digest_id, prf_id, digest_name, prf_name};
 
-use crate::known_identifier::KnownIdentifier;
+use crate::known_identifier::{KnownIdentifier, named};
 use picky_asn1_oid::ObjectIdentifier;
 
 // A hash function (FIPS 180-4).
-#[derive(Clone, Copy, Debug, PartialEq, Eq)]
+#[derive(Clone, Copy)]
 pub enum HashName {
     Sha1,
     Sha224,
@@ -47,22 +47,11 @@ impl HashName {
     pub fn of_digest(oid: &ObjectIdentifier) -> Option<HashName>
         ensures { result ≡ digest_name oid.now }
     {
-        if KnownIdentifier::Sha1.is(oid) {
-            return Some(HashName::Sha1);
-        }
-        if KnownIdentifier::Sha224.is(oid) {
-            return Some(HashName::Sha224);
-        }
-        if KnownIdentifier::Sha256.is(oid) {
-            return Some(HashName::Sha256);
-        }
-        if KnownIdentifier::Sha384.is(oid) {
-            return Some(HashName::Sha384);
-        }
-        if KnownIdentifier::Sha512.is(oid) {
-            return Some(HashName::Sha512);
-        }
-        None
+        let from_sha512 = named(KnownIdentifier::Sha512, HashName::Sha512, oid, None);
+        let from_sha384 = named(KnownIdentifier::Sha384, HashName::Sha384, oid, from_sha512);
+        let from_sha256 = named(KnownIdentifier::Sha256, HashName::Sha256, oid, from_sha384);
+        let from_sha224 = named(KnownIdentifier::Sha224, HashName::Sha224, oid, from_sha256);
+        named(KnownIdentifier::Sha1, HashName::Sha1, oid, from_sha224)
     }
 
     // The hash function under the HMAC with this identifier.
@@ -70,21 +59,30 @@ impl HashName {
     pub fn of_prf(oid: &ObjectIdentifier) -> Option<HashName>
         ensures { result ≡ prf_name oid.now }
     {
-        if KnownIdentifier::HmacWithSha1.is(oid) {
-            return Some(HashName::Sha1);
-        }
-        if KnownIdentifier::HmacWithSha224.is(oid) {
-            return Some(HashName::Sha224);
-        }
-        if KnownIdentifier::HmacWithSha256.is(oid) {
-            return Some(HashName::Sha256);
-        }
-        if KnownIdentifier::HmacWithSha384.is(oid) {
-            return Some(HashName::Sha384);
-        }
-        if KnownIdentifier::HmacWithSha512.is(oid) {
-            return Some(HashName::Sha512);
-        }
-        None
+        let from_sha512 = named(KnownIdentifier::HmacWithSha512, HashName::Sha512, oid, None);
+        let from_sha384 = named(
+            KnownIdentifier::HmacWithSha384,
+            HashName::Sha384,
+            oid,
+            from_sha512,
+        );
+        let from_sha256 = named(
+            KnownIdentifier::HmacWithSha256,
+            HashName::Sha256,
+            oid,
+            from_sha384,
+        );
+        let from_sha224 = named(
+            KnownIdentifier::HmacWithSha224,
+            HashName::Sha224,
+            oid,
+            from_sha256,
+        );
+        named(
+            KnownIdentifier::HmacWithSha1,
+            HashName::Sha1,
+            oid,
+            from_sha224,
+        )
     }
 }

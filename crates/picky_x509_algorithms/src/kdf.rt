@@ -1,16 +1,16 @@
 // Key derivation in PBES2.
 ghost use Rattle.std.specs.Prelude.{◌≡◌, IfOk};
-ghost use Rattle.picky_der.specs.Reading.{Reads};
-ghost use Rattle.picky_fields.specs.Fields.{seen_at};
+ghost use Rattle.picky_fields.specs.Records.{fields_by};
 ghost use Rattle.picky_x509_algorithms.specs.declared.kdf.Pbes2Kdf.{Pbes2Kdf as Derivation};
-ghost use Rattle.picky_x509_algorithms.specs.Kdf.{kdf_of, kdf_cases, kdf, kdf_lawful};
+ghost use Rattle.picky_x509_algorithms.specs.Kdf.{kdf_fields, kdf, kdf_lawful};
 
 use crate::known_identifier::KnownIdentifier;
 use crate::pbkdf2::Pbkdf2Params;
+use crate::writing::write_algorithm;
 use picky_asn1_oid::ObjectIdentifier;
 use picky_asn1_tag::{Asn1Value, CopyIn, Tag};
-use picky_der::{DerError, DerForm, DerRead, DerReader, DerWrite, write_value};
-use picky_fields::{AlgorithmIdentifier, read_last};
+use picky_der::{DerError, DerForm, DerRead, DerReader, DerWrite};
+use picky_fields::{AlgorithmIdentifier, DerRecord, read_last, read_record, write_record};
 use std::alloc::{AllocError, Global};
 
 /// The key derivation of PBES2 (RFC 8018 appendix A.4).
@@ -57,20 +57,30 @@ impl DerForm for Pbes2Kdf {
     ghost same_value = { λ _ _ e. e };
 }
 
-#[tactic(auto, unfolding(crate::specs::Kdf::kdf_cases, crate::specs::Identifiers::other_algorithm))]
-fn read_parameters(
-    alloc: Global,
-    oid: ObjectIdentifier,
-    reader: &mut DerReader<'_>,
-) -> Result<Pbes2Kdf, DerError>
-    ensures { Reads (λ k. k) (seen_at kdf_of (kdf_cases.reading oid)) reader.old result reader.new }
-{
-    if KnownIdentifier::Pbkdf2.is(&oid) {
-        let params = Pbkdf2Params::read_der(alloc, reader)?;
-        return Ok(Pbes2Kdf::Pbkdf2(params));
+impl DerRecord for Pbes2Kdf {
+    ghost fields = { fields_by (λ x. x) kdf_fields };
+
+    #[tactic(auto, unfolding(crate::specs::Kdf::kdf_fields, crate::specs::Kdf::kdf_cases, crate::specs::Identifiers::other_algorithm))]
+    fn read_fields(alloc: Global, reader: &mut DerReader<'_>) -> Result<Pbes2Kdf, DerError> {
+        let oid = ObjectIdentifier::read_der(alloc, reader)?;
+        if KnownIdentifier::Pbkdf2.is(&oid) {
+            let params = Pbkdf2Params::read_der(alloc, reader)?;
+            return Ok(Pbes2Kdf::Pbkdf2(params));
+        }
+        let parameters = read_last(alloc, reader)?;
+        Ok(Pbes2Kdf::Unknown(AlgorithmIdentifier { oid, parameters }))
     }
-    let parameters = read_last(alloc, reader)?;
-    Ok(Pbes2Kdf::Unknown(AlgorithmIdentifier { oid, parameters }))
+
+    #[tactic(auto, unfolding(crate::specs::Kdf::kdf_fields, crate::specs::Kdf::kdf_cases, crate::specs::Identifiers::other_algorithm))]
+    fn write_fields(&self, alloc: Global, out: &mut Vec<u8>) -> Result<(), DerError> {
+        match self {
+            Pbes2Kdf::Pbkdf2(params) => {
+                KnownIdentifier::Pbkdf2.write(out)?;
+                params.write_der(alloc, out)
+            }
+            Pbes2Kdf::Unknown(algorithm) => write_algorithm(alloc, algorithm, out),
+        }
+    }
 }
 
 impl DerRead for Pbes2Kdf {
@@ -79,32 +89,18 @@ impl DerRead for Pbes2Kdf {
         tag == Tag::SEQUENCE
     }
 
-    #[tactic(auto, unfolding(crate::specs::Kdf::kdf, picky_fields::specs::Fields::enclosed_at, picky_fields::specs::Fields::run_at))]
+    #[tactic(auto, unfolding(crate::specs::Kdf::kdf))]
     fn read_der(alloc: Global, reader: &mut DerReader<'_>) -> Result<Pbes2Kdf, DerError> {
-        let mut ahead = reader.fork();
-        let mut fields = ahead.nested(Tag::SEQUENCE)?;
-        let oid = ObjectIdentifier::read_der(alloc, &mut fields)?;
-        let kdf = read_parameters(alloc, oid, &mut fields)?;
-        fields.end()?;
-        *reader = ahead;
-        Ok(kdf)
+        read_record(alloc, reader)
     }
 
     ghost readable = { kdf_lawful.readable };
 }
 
 impl DerWrite for Pbes2Kdf {
-    #[tactic(auto, unfolding(crate::specs::Kdf::kdf, crate::specs::Kdf::kdf_cases, crate::specs::Identifiers::other_algorithm, picky_fields::specs::Algorithm::algorithm))]
+    #[tactic(auto, unfolding(crate::specs::Kdf::kdf))]
     fn write_der(&self, alloc: Global, out: &mut Vec<u8>) -> Result<(), DerError> {
-        match self {
-            Pbes2Kdf::Pbkdf2(params) => {
-                let mut fields = Vec::new(alloc);
-                KnownIdentifier::Pbkdf2.write(&mut fields)?;
-                params.write_der(alloc, &mut fields)?;
-                write_value(out, Tag::SEQUENCE, &fields)
-            }
-            Pbes2Kdf::Unknown(algorithm) => algorithm.write_der(alloc, out),
-        }
+        write_record(alloc, self, out)
     }
 
     ghost writable = { kdf_lawful.writable };

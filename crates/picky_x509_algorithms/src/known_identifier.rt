@@ -1,5 +1,5 @@
 // The identifiers that containers know.
-ghost use Rattle.std.specs.Prelude.{◌≡◌};
+ghost use Rattle.std.specs.Prelude.{◌≡◌, if◌then◌else◌, Some};
 ghost use Rattle.picky_asn1_oid.specs.Arcs.{contents_of};
 ghost use Rattle.picky_der.specs.Form.{Writes};
 ghost use Rattle.picky_fields.specs.Fields.{identifier};
@@ -125,4 +125,16 @@ impl KnownIdentifier {
     {
         write_value(out, Tag::OID, self.contents())
     }
+}
+
+// The name where this is the identifier, else what the others give.
+pub fn named<N: Copy>(
+    known: KnownIdentifier,
+    name: N,
+    oid: &ObjectIdentifier,
+    others: Option<N>,
+) -> Option<N>
+    ensures { result ≡ (if is_known known oid.now then Some name else others) }
+{
+    if known.is(oid) { Some(name) } else { others }
 }

@@ -1,16 +1,17 @@
 // PBES1: its ciphers and parameters.
 ghost use Rattle.std.specs.Prelude.{◌≡◌, IfOk};
+ghost use Rattle.picky_fields.specs.Records.{fields_by};
 ghost use Rattle.picky_x509_algorithms.specs.declared.pbes1.Pbes1Cipher.{Pbes1Cipher as Cipher};
 ghost use Rattle.picky_x509_algorithms.specs.declared.pbes1.Pbes1Params.{Pbes1Params as Parameters};
-ghost use Rattle.picky_x509_algorithms.specs.Pbes1.{pbes1_params, pbes1_params_lawful, cipher_id, cipher_name};
+ghost use Rattle.picky_x509_algorithms.specs.Pbes1.{pbes1_fields, pbes1_params, pbes1_params_lawful, cipher_id, cipher_name};
 
 use crate::counts::read_count;
-use crate::known_identifier::KnownIdentifier;
+use crate::known_identifier::{KnownIdentifier, named};
 use picky_asn1_oid::ObjectIdentifier;
 use picky_asn1_tag::{Asn1Value, CopyIn, Tag};
 use picky_contract::Bytes;
-use picky_der::{DerError, DerForm, DerRead, DerReader, DerWrite, write_value};
-use picky_fields::{read_octets, write_octets};
+use picky_der::{DerError, DerForm, DerRead, DerReader, DerWrite};
+use picky_fields::{DerRecord, read_octets, read_record, write_octets, write_record};
 use std::alloc::{AllocError, Global};
 
 /// A scheme of PBES1 in PKCS #12 (RFC 7292 appendix C).
@@ -38,13 +39,18 @@ impl Pbes1Cipher {
     pub fn of_identifier(oid: &ObjectIdentifier) -> Option<Pbes1Cipher>
         ensures { result ≡ cipher_name oid.now }
     {
-        if KnownIdentifier::PbeWithShaAnd40BitRc2Cbc.is(oid) {
-            return Some(Pbes1Cipher::ShaAnd40BitRc2Cbc);
-        }
-        if KnownIdentifier::PbeWithShaAnd3KeyTripleDesCbc.is(oid) {
-            return Some(Pbes1Cipher::ShaAnd3Key3DesCbc);
-        }
-        None
+        let triple_des = named(
+            KnownIdentifier::PbeWithShaAnd3KeyTripleDesCbc,
+            Pbes1Cipher::ShaAnd3Key3DesCbc,
+            oid,
+            None,
+        );
+        named(
+            KnownIdentifier::PbeWithShaAnd40BitRc2Cbc,
+            Pbes1Cipher::ShaAnd40BitRc2Cbc,
+            oid,
+            triple_des,
+        )
     }
 }
 
@@ -104,33 +110,41 @@ impl DerForm for Pbes1Params {
     ghost same_value = { λ _ _ e. e };
 }
 
+impl DerRecord for Pbes1Params {
+    ghost fields = { fields_by (λ x. x) pbes1_fields };
+
+    #[tactic(auto, unfolding(crate::specs::Pbes1::pbes1_fields))]
+    fn read_fields(alloc: Global, reader: &mut DerReader<'_>) -> Result<Pbes1Params, DerError> {
+        let salt = Bytes::new(read_octets(alloc, reader)?);
+        let iterations = read_count(alloc, reader)?;
+        Ok(Pbes1Params { salt, iterations })
+    }
+
+    #[tactic(auto, unfolding(crate::specs::Pbes1::pbes1_fields, crate::specs::Counts::count))]
+    fn write_fields(&self, alloc: Global, out: &mut Vec<u8>) -> Result<(), DerError> {
+        write_octets(self.salt.as_slice(), out)?;
+        self.iterations.write_der(alloc, out)
+    }
+}
+
 impl DerRead for Pbes1Params {
     #[tactic(auto, unfolding(crate::specs::Pbes1::pbes1_params))]
     fn begins_with(tag: Tag) -> bool {
         tag == Tag::SEQUENCE
     }
 
-    #[tactic(auto, unfolding(crate::specs::Pbes1::pbes1_params, picky_fields::specs::Fields::enclosed_at, picky_fields::specs::Fields::run_at))]
+    #[tactic(auto, unfolding(crate::specs::Pbes1::pbes1_params))]
     fn read_der(alloc: Global, reader: &mut DerReader<'_>) -> Result<Pbes1Params, DerError> {
-        let mut ahead = reader.fork();
-        let mut fields = ahead.nested(Tag::SEQUENCE)?;
-        let salt = Bytes::new(read_octets(alloc, &mut fields)?);
-        let iterations = read_count(alloc, &mut fields)?;
-        fields.end()?;
-        *reader = ahead;
-        Ok(Pbes1Params { salt, iterations })
+        read_record(alloc, reader)
     }
 
     ghost readable = { pbes1_params_lawful.readable };
 }
 
 impl DerWrite for Pbes1Params {
-    #[tactic(auto, unfolding(crate::specs::Pbes1::pbes1_params, crate::specs::Counts::count))]
+    #[tactic(auto, unfolding(crate::specs::Pbes1::pbes1_params))]
     fn write_der(&self, alloc: Global, out: &mut Vec<u8>) -> Result<(), DerError> {
-        let mut fields = Vec::new(alloc);
-        write_octets(self.salt.as_slice(), &mut fields)?;
-        self.iterations.write_der(alloc, &mut fields)?;
-        write_value(out, Tag::SEQUENCE, &fields)
+        write_record(alloc, self, out)
     }
 
     ghost writable = { pbes1_params_lawful.writable };

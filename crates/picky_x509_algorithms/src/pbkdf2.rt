@@ -1,8 +1,8 @@
 // Parameters of PBKDF2.
 ghost use Rattle.std.specs.Prelude.{◌≡◌, IfOk};
-ghost use Rattle.picky_der.specs.Reading.{Gives};
 ghost use Rattle.picky_der.specs.Form.{Writes};
-ghost use Rattle.picky_fields.specs.Fields.{run_at, SpellsOptional, OptionalRefused};
+ghost use Rattle.picky_fields.specs.Fields.{SpellsOptional, OptionalRefused};
+ghost use Rattle.picky_fields.specs.Records.{fields_by};
 ghost use Rattle.picky_x509_algorithms.specs.declared.pbkdf2.Pbkdf2Params.{Pbkdf2Params as Parameters};
 ghost use Rattle.picky_x509_algorithms.specs.Prf.{prf as prf_form};
 ghost use Rattle.picky_x509_algorithms.specs.Pbkdf2.{without_default, pbkdf2_fields, pbkdf2};
@@ -12,8 +12,10 @@ use crate::counts::{read_count, read_optional_count};
 use crate::prf::Pbkdf2Prf;
 use crate::salt::Pbkdf2Salt;
 use picky_asn1_tag::{Asn1Value, CopyIn, Tag};
-use picky_der::{DerError, DerForm, DerRead, DerReader, DerWrite, write_value};
-use picky_fields::{read_optional, write_optional};
+use picky_der::{DerError, DerForm, DerRead, DerReader, DerWrite};
+use picky_fields::{
+    DerRecord, copy_optional, read_optional, read_record, write_optional, write_record,
+};
 use std::alloc::{AllocError, Global};
 
 /// Parameters of PBKDF2 (RFC 8018 appendix A.2).
@@ -31,26 +33,25 @@ pub struct Pbkdf2Params {
     pub prf: Option<Pbkdf2Prf>,
 }
 
-fn copy_prf(alloc: Global, prf: &Option<Pbkdf2Prf>) -> Result<Option<Pbkdf2Prf>, AllocError>
-    ensures { IfOk result (λ copy. copy ≡ prf.now) }
-{
-    match prf {
-        Some(prf) => Ok(Some(prf.clone(alloc)?)),
-        None => Ok(None),
-    }
-}
-
 impl Pbkdf2Params {
     /// A copy, in memory of its own.
+    #[tactic(auto, using(picky_fields::specs::laws::Copies::copied_option))]
     pub fn clone(&self, alloc: Global) -> Result<Pbkdf2Params, AllocError>
         ensures { IfOk result (λ copy. copy ≡ self.now) }
     {
-        Ok(Pbkdf2Params {
-            salt: self.salt.clone(alloc)?,
-            iteration_count: self.iteration_count,
-            key_length: self.key_length,
-            prf: copy_prf(alloc, &self.prf)?,
-        })
+        let salt = self.salt.clone(alloc)?;
+        match copy_optional(alloc, &self.prf) {
+            Ok(prf) => Ok(Pbkdf2Params {
+                salt,
+                iteration_count: self.iteration_count,
+                key_length: self.key_length,
+                prf,
+            }),
+            Err(fault) => {
+                drop(salt);
+                Err(fault)
+            }
+        }
     }
 }
 
@@ -86,40 +87,6 @@ fn without_default(prf: Option<Pbkdf2Prf>) -> Option<Pbkdf2Prf>
     }
 }
 
-#[tactic(auto, unfolding(crate::specs::Pbkdf2::pbkdf2_fields, picky_fields::specs::Fields::run_at))]
-fn read_fields(alloc: Global, mut fields: DerReader<'_>) -> Result<Pbkdf2Params, DerError>
-    ensures { Gives (λ p. p) result (run_at pbkdf2_fields.reading fields.entry.depth fields.entry.left) }
-{
-    let salt = Pbkdf2Salt::read_der(alloc, &mut fields)?;
-    let iteration_count = read_count(alloc, &mut fields)?;
-    let key_length = read_optional_count(alloc, &mut fields)?;
-    let prf = read_optional(alloc, &mut fields)?;
-    fields.end()?;
-    Ok(Pbkdf2Params {
-        salt,
-        iteration_count,
-        key_length,
-        prf: without_default(prf),
-    })
-}
-
-impl DerRead for Pbkdf2Params {
-    #[tactic(auto, unfolding(crate::specs::Pbkdf2::pbkdf2))]
-    fn begins_with(tag: Tag) -> bool {
-        tag == Tag::SEQUENCE
-    }
-
-    #[tactic(auto, unfolding(crate::specs::Pbkdf2::pbkdf2, picky_fields::specs::Fields::enclosed_at))]
-    fn read_der(alloc: Global, reader: &mut DerReader<'_>) -> Result<Pbkdf2Params, DerError> {
-        let mut ahead = reader.fork();
-        let params = read_fields(alloc, ahead.nested(Tag::SEQUENCE)?)?;
-        *reader = ahead;
-        Ok(params)
-    }
-
-    ghost readable = { pbkdf2_lawful.readable };
-}
-
 // The prf where there is one beside the default, else nothing.
 fn write_prf(alloc: Global, prf: &Option<Pbkdf2Prf>, out: &mut Vec<u8>) -> Result<(), DerError>
     ensures { Writes (λ s. SpellsOptional prf_form.Encodes s (without_default prf.now)) (OptionalRefused prf_form.Refused (without_default prf.now)) result out.old.items out.new.items }
@@ -131,15 +98,67 @@ fn write_prf(alloc: Global, prf: &Option<Pbkdf2Prf>, out: &mut Vec<u8>) -> Resul
     }
 }
 
+impl DerRecord for Pbkdf2Params {
+    ghost fields = { fields_by (λ x. x) pbkdf2_fields };
+
+    #[tactic(auto, unfolding(crate::specs::Pbkdf2::pbkdf2_fields))]
+    fn read_fields(alloc: Global, reader: &mut DerReader<'_>) -> Result<Pbkdf2Params, DerError> {
+        let salt = Pbkdf2Salt::read_der(alloc, reader)?;
+        let iteration_count = match read_count(alloc, reader) {
+            Ok(iteration_count) => iteration_count,
+            Err(fault) => {
+                drop(salt);
+                return Err(fault);
+            }
+        };
+        let key_length = match read_optional_count(alloc, reader) {
+            Ok(key_length) => key_length,
+            Err(fault) => {
+                drop(salt);
+                return Err(fault);
+            }
+        };
+        match read_optional(alloc, reader) {
+            Ok(prf) => Ok(Pbkdf2Params {
+                salt,
+                iteration_count,
+                key_length,
+                prf: without_default(prf),
+            }),
+            Err(fault) => {
+                drop(salt);
+                Err(fault)
+            }
+        }
+    }
+
+    #[tactic(auto, unfolding(crate::specs::Pbkdf2::pbkdf2_fields, crate::specs::Counts::count))]
+    fn write_fields(&self, alloc: Global, out: &mut Vec<u8>) -> Result<(), DerError> {
+        self.salt.write_der(alloc, out)?;
+        self.iteration_count.write_der(alloc, out)?;
+        write_optional(alloc, &self.key_length, out)?;
+        write_prf(alloc, &self.prf, out)
+    }
+}
+
+impl DerRead for Pbkdf2Params {
+    #[tactic(auto, unfolding(crate::specs::Pbkdf2::pbkdf2))]
+    fn begins_with(tag: Tag) -> bool {
+        tag == Tag::SEQUENCE
+    }
+
+    #[tactic(auto, unfolding(crate::specs::Pbkdf2::pbkdf2))]
+    fn read_der(alloc: Global, reader: &mut DerReader<'_>) -> Result<Pbkdf2Params, DerError> {
+        read_record(alloc, reader)
+    }
+
+    ghost readable = { pbkdf2_lawful.readable };
+}
+
 impl DerWrite for Pbkdf2Params {
-    #[tactic(auto, unfolding(crate::specs::Pbkdf2::pbkdf2, crate::specs::Pbkdf2::pbkdf2_fields, crate::specs::Counts::count))]
+    #[tactic(auto, unfolding(crate::specs::Pbkdf2::pbkdf2))]
     fn write_der(&self, alloc: Global, out: &mut Vec<u8>) -> Result<(), DerError> {
-        let mut fields = Vec::new(alloc);
-        self.salt.write_der(alloc, &mut fields)?;
-        self.iteration_count.write_der(alloc, &mut fields)?;
-        write_optional(alloc, &self.key_length, &mut fields)?;
-        write_prf(alloc, &self.prf, &mut fields)?;
-        write_value(out, Tag::SEQUENCE, &fields)
+        write_record(alloc, self, out)
     }
 
     ghost writable = { pbkdf2_lawful.writable };

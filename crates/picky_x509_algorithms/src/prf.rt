@@ -1,17 +1,17 @@
 // Functions under PBKDF2.
 ghost use Rattle.std.specs.Prelude.{◌≡◌, IfOk};
-ghost use Rattle.picky_der.specs.Reading.{Reads};
-ghost use Rattle.picky_fields.specs.Fields.{seen_at};
+ghost use Rattle.picky_fields.specs.Records.{fields_by};
 ghost use Rattle.picky_x509_algorithms.specs.declared.prf.Pbkdf2Prf.{Pbkdf2Prf as Prf};
-ghost use Rattle.picky_x509_algorithms.specs.Hashes.{prf_cases};
-ghost use Rattle.picky_x509_algorithms.specs.Prf.{prf_by, prf_of, prf, prf_lawful};
+ghost use Rattle.picky_x509_algorithms.specs.Prf.{prf_by, prf_fields, prf, prf_lawful};
 
 use crate::hash_name::HashName;
-use crate::writing::write_with_null;
+use crate::writing::{write_algorithm, write_with_null};
 use picky_asn1_oid::ObjectIdentifier;
 use picky_asn1_tag::{Asn1Value, CopyIn, Tag};
 use picky_der::{DerError, DerForm, DerRead, DerReader, DerWrite};
-use picky_fields::{AlgorithmIdentifier, read_last, read_null_or_none};
+use picky_fields::{
+    AlgorithmIdentifier, DerRecord, read_last, read_null_or_none, read_record, write_record,
+};
 use std::alloc::{AllocError, Global};
 
 /// The pseudorandom function of PBKDF2, told by its identifier (RFC 8018 appendix B.1).
@@ -84,20 +84,32 @@ fn prf_by(hash: HashName) -> Pbkdf2Prf
     }
 }
 
-#[tactic(auto, unfolding(crate::specs::Hashes::prf_cases, crate::specs::Identifiers::other_algorithm))]
-fn read_parameters(
-    alloc: Global,
-    oid: ObjectIdentifier,
-    reader: &mut DerReader<'_>,
-) -> Result<Pbkdf2Prf, DerError>
-    ensures { Reads (λ p. p) (seen_at prf_of (prf_cases.reading oid)) reader.old result reader.new }
-{
-    if let Some(hash) = HashName::of_prf(&oid) {
-        read_null_or_none(alloc, reader)?;
-        return Ok(prf_by(hash));
+impl DerRecord for Pbkdf2Prf {
+    ghost fields = { fields_by (λ x. x) prf_fields };
+
+    #[tactic(auto, unfolding(crate::specs::Prf::prf_fields, crate::specs::Hashes::prf_cases, crate::specs::Identifiers::other_algorithm))]
+    fn read_fields(alloc: Global, reader: &mut DerReader<'_>) -> Result<Pbkdf2Prf, DerError> {
+        let oid = ObjectIdentifier::read_der(alloc, reader)?;
+        if let Some(hash) = HashName::of_prf(&oid) {
+            read_null_or_none(alloc, reader)?;
+            return Ok(prf_by(hash));
+        }
+        let parameters = read_last(alloc, reader)?;
+        Ok(Pbkdf2Prf::Unknown(AlgorithmIdentifier { oid, parameters }))
     }
-    let parameters = read_last(alloc, reader)?;
-    Ok(Pbkdf2Prf::Unknown(AlgorithmIdentifier { oid, parameters }))
+
+    #[tactic(auto, unfolding(crate::specs::Prf::prf_fields, crate::specs::Hashes::prf_cases, crate::specs::Identifiers::other_algorithm))]
+    fn write_fields(&self, alloc: Global, out: &mut Vec<u8>) -> Result<(), DerError> {
+        let hash = match self {
+            Pbkdf2Prf::HmacWithSha1 => HashName::Sha1,
+            Pbkdf2Prf::HmacWithSha224 => HashName::Sha224,
+            Pbkdf2Prf::HmacWithSha256 => HashName::Sha256,
+            Pbkdf2Prf::HmacWithSha384 => HashName::Sha384,
+            Pbkdf2Prf::HmacWithSha512 => HashName::Sha512,
+            Pbkdf2Prf::Unknown(algorithm) => return write_algorithm(alloc, algorithm, out),
+        };
+        write_with_null(alloc, hash.prf_identifier(), out)
+    }
 }
 
 impl DerRead for Pbkdf2Prf {
@@ -106,32 +118,18 @@ impl DerRead for Pbkdf2Prf {
         tag == Tag::SEQUENCE
     }
 
-    #[tactic(auto, unfolding(crate::specs::Prf::prf, picky_fields::specs::Fields::enclosed_at, picky_fields::specs::Fields::run_at))]
+    #[tactic(auto, unfolding(crate::specs::Prf::prf))]
     fn read_der(alloc: Global, reader: &mut DerReader<'_>) -> Result<Pbkdf2Prf, DerError> {
-        let mut ahead = reader.fork();
-        let mut fields = ahead.nested(Tag::SEQUENCE)?;
-        let oid = ObjectIdentifier::read_der(alloc, &mut fields)?;
-        let prf = read_parameters(alloc, oid, &mut fields)?;
-        fields.end()?;
-        *reader = ahead;
-        Ok(prf)
+        read_record(alloc, reader)
     }
 
     ghost readable = { prf_lawful.readable };
 }
 
 impl DerWrite for Pbkdf2Prf {
-    #[tactic(auto, unfolding(crate::specs::Prf::prf, crate::specs::Hashes::prf_cases, crate::specs::Identifiers::other_algorithm, picky_fields::specs::Algorithm::algorithm))]
+    #[tactic(auto, unfolding(crate::specs::Prf::prf))]
     fn write_der(&self, alloc: Global, out: &mut Vec<u8>) -> Result<(), DerError> {
-        let hash = match self {
-            Pbkdf2Prf::HmacWithSha1 => HashName::Sha1,
-            Pbkdf2Prf::HmacWithSha224 => HashName::Sha224,
-            Pbkdf2Prf::HmacWithSha256 => HashName::Sha256,
-            Pbkdf2Prf::HmacWithSha384 => HashName::Sha384,
-            Pbkdf2Prf::HmacWithSha512 => HashName::Sha512,
-            Pbkdf2Prf::Unknown(algorithm) => return algorithm.write_der(alloc, out),
-        };
-        write_with_null(alloc, hash.prf_identifier(), out)
+        write_record(alloc, self, out)
     }
 
     ghost writable = { prf_lawful.writable };

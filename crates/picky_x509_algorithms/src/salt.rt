@@ -1,6 +1,7 @@
 // The salt of PBKDF2.
 ghost use Rattle.std.specs.Prelude.{◌≡◌, IfOk};
 ghost use Rattle.std.proofs.Common.{ap};
+ghost use Rattle.picky_der.specs.Reading.{Gives, tag_at};
 ghost use Rattle.picky_x509_algorithms.specs.declared.salt.Pbkdf2Salt.{Pbkdf2Salt as TheSalt};
 ghost use Rattle.picky_x509_algorithms.specs.Salt.{SaltValue, salt_parts, salt, salt_lawful};
 
@@ -54,15 +55,26 @@ impl DerForm for Pbkdf2Salt {
     ghost same_value = { λ _ _ e. ap salt_parts e };
 }
 
+// The next tag.
+#[tactic(auto, unfolding(picky_der::specs::Reading::tag_at))]
+fn next_tag(reader: &DerReader<'_>) -> Result<Tag, DerError>
+    ensures { Gives (λ tag. tag.0) result (tag_at reader.now.left) }
+{
+    match reader.peek_tag() {
+        Ok(peeker) => Ok(peeker.next_tag),
+        Err(fault) => Err(fault),
+    }
+}
+
 impl DerRead for Pbkdf2Salt {
     #[tactic(auto, unfolding(crate::specs::Salt::salt, picky_fields::specs::Algorithm::algorithm))]
     fn begins_with(tag: Tag) -> bool {
         tag == Tag::SEQUENCE || tag == Tag::OCTET_STRING
     }
 
-    #[tactic(auto, unfolding(crate::specs::Salt::salt, picky_fields::specs::Choice::either_at, picky_der::specs::Reading::tag_at))]
+    #[tactic(auto, unfolding(crate::specs::Salt::salt, picky_fields::specs::Choice::either_at))]
     fn read_der(alloc: Global, reader: &mut DerReader<'_>) -> Result<Pbkdf2Salt, DerError> {
-        if AlgorithmIdentifier::begins_with(reader.peek_tag()?.next_tag) {
+        if AlgorithmIdentifier::begins_with(next_tag(reader)?) {
             let source = AlgorithmIdentifier::read_der(alloc, reader)?;
             return Ok(Pbkdf2Salt::OtherSource(source));
         }

@@ -66,7 +66,7 @@ attribute_parts (Unknown oid value) = (oid, value)
 unfoldable pub values : Form (List (List ℕ))
 values = list_form (record { 0 = 49 }) raw_form
 
-abbrev pub attribute_fields : Fields Pkcs12Attribute
+unfoldable pub attribute_fields : Fields Pkcs12Attribute
 attribute_fields = seen_again attribute_of attribute_parts (one identifier and one values)
 
 -- In form is an attribute that is read back as itself: an Unknown one is none of the known ones, with one value of their type.

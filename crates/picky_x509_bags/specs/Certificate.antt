@@ -3,7 +3,7 @@ use Rattle.std.specs.Prelude.{ℕ, List, ◌⊎◌}
 use Rattle.std.proofs.Common.{◌≡◌, refl, arith, inl, inr}
 use Rattle.picky_der.specs.Form.{Form}
 use Rattle.picky_der.specs.Raw.{raw_form}
-use Rattle.picky_fields.specs.Fields.{explicit, identifier, octet_string, one, seen, sequence}
+use Rattle.picky_fields.specs.Fields.{Fields, explicit, identifier, octet_string, one, seen, sequence}
 use Rattle.picky_fields.specs.Choice.{Cases, case, otherwise, told_by}
 use Rattle.picky_fields.specs.laws.Fields.{Lawful, explicit_lawful, one_lawful, one_to_one, seen_lawful, sequence_lawful}
 use Rattle.picky_fields.specs.laws.Choice.{LawfulCases, case_lawful, otherwise_lawful, told_lawful}
@@ -28,8 +28,11 @@ certificate_parts (Unknown id value) = inr (id, value)
 unfoldable pub certificate_cases : Cases (List ℕ) CertificateValue
 certificate_cases = case (arcs known.X509Certificate) (is_known known.X509Certificate) (one (explicit 0 octet_string)) (otherwise (one (explicit 0 raw_form)))
 
+unfoldable pub certificate_fields : Fields CertificateBag
+certificate_fields = seen certificate_of certificate_parts (told_by identifier certificate_cases)
+
 unfoldable pub certificate : Form CertificateBag
-certificate = sequence (seen certificate_of certificate_parts (told_by identifier certificate_cases))
+certificate = sequence certificate_fields
 
 -- ---- laws
 
@@ -47,5 +50,5 @@ certificate_cases_lawful =
     case_lawful (tells known.X509Certificate) (one_lawful (explicit_lawful 0 (omega arith) octets_lawful)) (otherwise_lawful (one_lawful (explicit_lawful 0 (omega arith) raw_lawful)))
 
 pub certificate_lawful : Lawful certificate
-unfolding certificate
+unfolding certificate certificate_fields
 certificate_lawful = sequence_lawful (seen_lawful (one_to_one {to = certificate_of} {from = certificate_parts} certificate_back certificate_forth) (told_lawful identifier_lawful certificate_cases_lawful))

@@ -3,7 +3,7 @@ use Rattle.std.specs.Prelude.{ℕ, List, Option, ◌⊎◌}
 use Rattle.std.proofs.Common.{◌≡◌, ap, arith, inl, inr}
 use Rattle.picky_der.specs.Form.{Form}
 use Rattle.picky_der.specs.Raw.{raw_form}
-use Rattle.picky_fields.specs.Fields.{explicit, identifier, one, optional, sequence}
+use Rattle.picky_fields.specs.Fields.{Fields, explicit, identifier, one, optional, sequence}
 use Rattle.picky_fields.specs.Choice.{Cases, case, otherwise, told_by}
 use Rattle.picky_fields.specs.laws.Fields.{Lawful, explicit_lawful, one_lawful, sequence_lawful}
 use Rattle.picky_fields.specs.laws.Choice.{LawfulCases, case_lawful, otherwise_lawful, told_lawful}
@@ -38,9 +38,13 @@ contents_cases f =
     (case (arcs known.EncryptedData) (is_known known.EncryptedData) (one (explicit 0 encrypted))
     (otherwise (optional (explicit 0 raw_form))))
 
+-- the type of a part, and what stands behind it
+unfoldable pub contents_fields : {X : Type 0} → Form X → Fields (ContentsValue X)
+contents_fields f = told_by identifier (contents_cases f)
+
 -- the parts whose bags have the form f
 unfoldable pub contents : {X : Type 0} → Form X → Form (ContentsValue X)
-contents f = sequence (told_by identifier (contents_cases f))
+contents f = sequence (contents_fields f)
 
 -- ---- laws
 
@@ -70,5 +74,5 @@ contents_cases_lawful law =
     case_lawful (tells known.Data) bags (case_lawful (tells known.EncryptedData) part (otherwise_lawful other))
 
 pub contents_lawful : {X : Type 0} {f : Form X} → Lawful f → Lawful (contents f)
-unfolding contents
+unfolding contents contents_fields
 contents_lawful law = sequence_lawful (told_lawful identifier_lawful (contents_cases_lawful law))

@@ -4,8 +4,9 @@ ghost use Rattle.std.specs.Option.{option_map};
 ghost use Rattle.picky_der.specs.Reading.{Reads};
 ghost use Rattle.picky_der.specs.Form.{Writes};
 ghost use Rattle.picky_fields.specs.Fields.{SpellsOptional, OptionalRefused, optional};
+ghost use Rattle.picky_fields.specs.Records.{fields_by};
 ghost use Rattle.picky_x509_bags.specs.declared.attribute.Pkcs12Attribute.{Pkcs12Attribute as Attribute};
-ghost use Rattle.picky_x509_bags.specs.Attribute.{attribute_of, attribute, attributes};
+ghost use Rattle.picky_x509_bags.specs.Attribute.{attribute_of, attribute_fields, attribute, attributes};
 ghost use Rattle.picky_x509_bags.specs.laws.Attribute.{attribute_lawful};
 
 use crate::values::{copy_values, name_in, octets_in, read_values, write_single, write_values};
@@ -14,8 +15,8 @@ use picky_asn1_tag::{Asn1Value, CopyIn, Tag};
 use picky_asn1_text::BmpString;
 use picky_asn1_wrapper::Asn1SetOf;
 use picky_contract::Bytes;
-use picky_der::{Asn1RawDer, DerError, DerForm, DerRead, DerReader, DerWrite, write_value};
-use picky_fields::{read_optional, write_optional};
+use picky_der::{Asn1RawDer, DerError, DerForm, DerRead, DerReader, DerWrite};
+use picky_fields::{DerRecord, read_optional, read_record, write_optional, write_record};
 use picky_x509_algorithms::KnownIdentifier;
 use std::alloc::{AllocError, Global};
 
@@ -100,22 +101,44 @@ fn attribute_of(
     Ok(Pkcs12Attribute::Unknown { oid, value })
 }
 
+impl DerRecord for Pkcs12Attribute {
+    ghost fields = { fields_by (λ a. a) attribute_fields };
+
+    #[tactic(auto, unfolding(crate::specs::Attribute::attribute_fields))]
+    fn read_fields(alloc: Global, reader: &mut DerReader<'_>) -> Result<Pkcs12Attribute, DerError> {
+        let oid = ObjectIdentifier::read_der(alloc, reader)?;
+        let value = read_values(alloc, reader)?;
+        Ok(attribute_of(alloc, oid, value)?)
+    }
+
+    #[tactic(auto, unfolding(crate::specs::Attribute::attribute_fields))]
+    fn write_fields(&self, alloc: Global, out: &mut Vec<u8>) -> Result<(), DerError> {
+        match self {
+            Pkcs12Attribute::FriendlyName(name) => {
+                KnownIdentifier::FriendlyName.write(out)?;
+                write_single(alloc, Tag::BMP_STRING, name.as_bytes(), out)
+            }
+            Pkcs12Attribute::LocalKeyId(id) => {
+                KnownIdentifier::LocalKeyId.write(out)?;
+                write_single(alloc, Tag::OCTET_STRING, id.as_slice(), out)
+            }
+            Pkcs12Attribute::Unknown { oid, value } => {
+                oid.write_der(alloc, out)?;
+                write_values(alloc, value, out)
+            }
+        }
+    }
+}
+
 impl DerRead for Pkcs12Attribute {
     #[tactic(auto, unfolding(crate::specs::Attribute::attribute))]
     fn begins_with(tag: Tag) -> bool {
         tag == Tag::SEQUENCE
     }
 
-    #[tactic(auto, unfolding(crate::specs::Attribute::attribute, picky_fields::specs::Fields::enclosed_at, picky_fields::specs::Fields::run_at))]
+    #[tactic(auto, unfolding(crate::specs::Attribute::attribute))]
     fn read_der(alloc: Global, reader: &mut DerReader<'_>) -> Result<Pkcs12Attribute, DerError> {
-        let mut ahead = reader.fork();
-        let mut fields = ahead.nested(Tag::SEQUENCE)?;
-        let oid = ObjectIdentifier::read_der(alloc, &mut fields)?;
-        let value = read_values(alloc, &mut fields)?;
-        fields.end()?;
-        let attribute = attribute_of(alloc, oid, value)?;
-        *reader = ahead;
-        Ok(attribute)
+        read_record(alloc, reader)
     }
 
     ghost readable = { attribute_lawful.readable };
@@ -124,24 +147,7 @@ impl DerRead for Pkcs12Attribute {
 impl DerWrite for Pkcs12Attribute {
     #[tactic(auto, unfolding(crate::specs::Attribute::attribute))]
     fn write_der(&self, alloc: Global, out: &mut Vec<u8>) -> Result<(), DerError> {
-        let mut fields = Vec::new(alloc);
-        match self {
-            Pkcs12Attribute::FriendlyName(name) => {
-                KnownIdentifier::FriendlyName.write(&mut fields)?;
-                write_single(alloc, Tag::BMP_STRING, name.as_bytes(), &mut fields)?;
-                write_value(out, Tag::SEQUENCE, &fields)
-            }
-            Pkcs12Attribute::LocalKeyId(id) => {
-                KnownIdentifier::LocalKeyId.write(&mut fields)?;
-                write_single(alloc, Tag::OCTET_STRING, id.as_slice(), &mut fields)?;
-                write_value(out, Tag::SEQUENCE, &fields)
-            }
-            Pkcs12Attribute::Unknown { oid, value } => {
-                oid.write_der(alloc, &mut fields)?;
-                write_values(alloc, value, &mut fields)?;
-                write_value(out, Tag::SEQUENCE, &fields)
-            }
-        }
+        write_record(alloc, self, out)
     }
 
     ghost writable = { attribute_lawful.writable };

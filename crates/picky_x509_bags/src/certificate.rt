@@ -1,15 +1,17 @@
 // Certificates in bags.
 ghost use Rattle.std.specs.Prelude.{◌≡◌, IfOk};
-ghost use Rattle.picky_der.specs.Reading.{Reads};
-ghost use Rattle.picky_fields.specs.Fields.{seen_at};
+ghost use Rattle.picky_fields.specs.Records.{fields_by};
 ghost use Rattle.picky_x509_bags.specs.declared.certificate.CertificateBag.{CertificateBag as Certificate};
-ghost use Rattle.picky_x509_bags.specs.Certificate.{certificate_of, certificate_cases, certificate, certificate_lawful};
+ghost use Rattle.picky_x509_bags.specs.Certificate.{certificate_fields, certificate, certificate_lawful};
 
 use picky_asn1_oid::ObjectIdentifier;
 use picky_asn1_tag::{Asn1Value, CopyIn, Tag};
 use picky_contract::Bytes;
-use picky_der::{Asn1RawDer, DerError, DerForm, DerRead, DerReader, DerWrite, write_value};
-use picky_fields::{read_explicit, read_explicit_octets, write_explicit, write_explicit_octets};
+use picky_der::{Asn1RawDer, DerError, DerForm, DerRead, DerReader, DerWrite};
+use picky_fields::{
+    DerRecord, read_explicit, read_explicit_octets, read_record, write_explicit,
+    write_explicit_octets, write_record,
+};
 use picky_x509_algorithms::KnownIdentifier;
 use std::alloc::{AllocError, Global};
 
@@ -65,20 +67,33 @@ impl DerForm for CertificateBag {
     ghost same_value = { λ _ _ e. e };
 }
 
-#[tactic(auto, unfolding(crate::specs::Certificate::certificate_cases))]
-fn read_certificate(
-    alloc: Global,
-    type_id: ObjectIdentifier,
-    reader: &mut DerReader<'_>,
-) -> Result<CertificateBag, DerError>
-    ensures { Reads (λ c. c) (seen_at certificate_of (certificate_cases.reading type_id)) reader.old result reader.new }
-{
-    if KnownIdentifier::X509Certificate.is(&type_id) {
-        let octets = Bytes::new(read_explicit_octets(alloc, 0, reader)?);
-        return Ok(CertificateBag::X509(octets));
+impl DerRecord for CertificateBag {
+    ghost fields = { fields_by (λ c. c) certificate_fields };
+
+    #[tactic(auto, unfolding(crate::specs::Certificate::certificate_fields, crate::specs::Certificate::certificate_cases))]
+    fn read_fields(alloc: Global, reader: &mut DerReader<'_>) -> Result<CertificateBag, DerError> {
+        let type_id = ObjectIdentifier::read_der(alloc, reader)?;
+        if KnownIdentifier::X509Certificate.is(&type_id) {
+            let octets = Bytes::new(read_explicit_octets(alloc, 0, reader)?);
+            return Ok(CertificateBag::X509(octets));
+        }
+        let value = read_explicit(alloc, 0, reader)?;
+        Ok(CertificateBag::Unknown { type_id, value })
     }
-    let value = read_explicit(alloc, 0, reader)?;
-    Ok(CertificateBag::Unknown { type_id, value })
+
+    #[tactic(auto, unfolding(crate::specs::Certificate::certificate_fields, crate::specs::Certificate::certificate_cases))]
+    fn write_fields(&self, alloc: Global, out: &mut Vec<u8>) -> Result<(), DerError> {
+        match self {
+            CertificateBag::X509(octets) => {
+                KnownIdentifier::X509Certificate.write(out)?;
+                write_explicit_octets(alloc, 0, octets.as_slice(), out)
+            }
+            CertificateBag::Unknown { type_id, value } => {
+                type_id.write_der(alloc, out)?;
+                write_explicit(alloc, 0, value, out)
+            }
+        }
+    }
 }
 
 impl DerRead for CertificateBag {
@@ -87,36 +102,18 @@ impl DerRead for CertificateBag {
         tag == Tag::SEQUENCE
     }
 
-    #[tactic(auto, unfolding(crate::specs::Certificate::certificate, picky_fields::specs::Fields::enclosed_at, picky_fields::specs::Fields::run_at))]
+    #[tactic(auto, unfolding(crate::specs::Certificate::certificate))]
     fn read_der(alloc: Global, reader: &mut DerReader<'_>) -> Result<CertificateBag, DerError> {
-        let mut ahead = reader.fork();
-        let mut fields = ahead.nested(Tag::SEQUENCE)?;
-        let type_id = ObjectIdentifier::read_der(alloc, &mut fields)?;
-        let certificate = read_certificate(alloc, type_id, &mut fields)?;
-        fields.end()?;
-        *reader = ahead;
-        Ok(certificate)
+        read_record(alloc, reader)
     }
 
     ghost readable = { certificate_lawful.readable };
 }
 
 impl DerWrite for CertificateBag {
-    #[tactic(auto, unfolding(crate::specs::Certificate::certificate, crate::specs::Certificate::certificate_cases))]
+    #[tactic(auto, unfolding(crate::specs::Certificate::certificate))]
     fn write_der(&self, alloc: Global, out: &mut Vec<u8>) -> Result<(), DerError> {
-        let mut fields = Vec::new(alloc);
-        match self {
-            CertificateBag::X509(octets) => {
-                KnownIdentifier::X509Certificate.write(&mut fields)?;
-                write_explicit_octets(alloc, 0, octets.as_slice(), &mut fields)?;
-                write_value(out, Tag::SEQUENCE, &fields)
-            }
-            CertificateBag::Unknown { type_id, value } => {
-                type_id.write_der(alloc, &mut fields)?;
-                write_explicit(alloc, 0, value, &mut fields)?;
-                write_value(out, Tag::SEQUENCE, &fields)
-            }
-        }
+        write_record(alloc, self, out)
     }
 
     ghost writable = { certificate_lawful.writable };

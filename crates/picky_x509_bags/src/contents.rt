@@ -3,14 +3,17 @@ ghost use Rattle.std.specs.Prelude.{◌≡◌, IfOk};
 ghost use Rattle.picky_der.specs.Reading.{Reads};
 ghost use Rattle.picky_der.specs.Form.{Writes};
 ghost use Rattle.picky_fields.specs.Fields.{explicit};
-ghost use Rattle.picky_x509_bags.specs.Contents.{ContentsValue, contents_seen, in_octets, contents_cases, contents, contents_lawful, contents_same};
+ghost use Rattle.picky_fields.specs.Records.{fields_by};
+ghost use Rattle.picky_x509_bags.specs.declared.contents.SafeContentsInfo.TheVariants.{EncryptedData, Unknown};
+ghost use Rattle.picky_x509_bags.specs.Contents.{ContentsValue, contents_seen, in_octets, contents_cases, contents_fields, contents, contents_lawful, contents_same};
 
 use picky_asn1_oid::ObjectIdentifier;
 use picky_asn1_tag::{Asn1Value, CopyIn, Tag};
 use picky_asn1_wrapper::OctetStringAsn1Container;
 use picky_der::{Asn1RawDer, DerError, DerForm, DerRead, DerReader, DerWrite, write_value};
 use picky_fields::{
-    read_explicit, read_optional_explicit, write_explicit, write_optional_explicit,
+    DerRecord, read_explicit, read_optional_explicit, read_record, write_explicit,
+    write_optional_explicit, write_record,
 };
 use picky_x509_algorithms::KnownIdentifier;
 use picky_x509_store::EncryptedSafeContents;
@@ -41,6 +44,30 @@ fn copy_raw(alloc: Global, raw: &Option<Asn1RawDer>) -> Result<Option<Asn1RawDer
     }
 }
 
+fn copy_encrypted<B>(
+    alloc: Global,
+    part: &EncryptedSafeContents,
+) -> Result<SafeContentsInfo<B>, AllocError>
+    ensures { IfOk result (λ copy. copy ≡ EncryptedData part.now) }
+{
+    Ok(SafeContentsInfo::EncryptedData(part.clone(alloc)?))
+}
+
+fn copy_unknown<B>(
+    alloc: Global,
+    content_type: &ObjectIdentifier,
+    content: &Option<Asn1RawDer>,
+) -> Result<SafeContentsInfo<B>, AllocError>
+    ensures { IfOk result (λ copy. copy ≡ Unknown content_type.now content.now) }
+{
+    let content_type = content_type.clone(alloc)?;
+    let content = copy_raw(alloc, content)?;
+    Ok(SafeContentsInfo::Unknown {
+        content_type,
+        content,
+    })
+}
+
 impl<B: CopyIn> SafeContentsInfo<B> {
     /// A copy, in memory of its own: its bags mean the same.
     pub fn clone(&self, alloc: Global) -> Result<SafeContentsInfo<B>, AllocError>
@@ -48,16 +75,11 @@ impl<B: CopyIn> SafeContentsInfo<B> {
     {
         match self {
             SafeContentsInfo::Data(bags) => Ok(SafeContentsInfo::Data(bags.copy_in(alloc)?)),
-            SafeContentsInfo::EncryptedData(part) => {
-                Ok(SafeContentsInfo::EncryptedData(part.clone(alloc)?))
-            }
+            SafeContentsInfo::EncryptedData(part) => copy_encrypted(alloc, part),
             SafeContentsInfo::Unknown {
                 content_type,
                 content,
-            } => Ok(SafeContentsInfo::Unknown {
-                content_type: content_type.clone(alloc)?,
-                content: copy_raw(alloc, content)?,
-            }),
+            } => copy_unknown(alloc, content_type, content),
         }
     }
 }
@@ -116,29 +138,6 @@ fn read_content<B: DerRead + Drop>(
     })
 }
 
-impl<B: DerRead + DerWrite + Drop> DerRead for SafeContentsInfo<B> {
-    #[tactic(auto, unfolding(crate::specs::Contents::contents))]
-    fn begins_with(tag: Tag) -> bool {
-        tag == Tag::SEQUENCE
-    }
-
-    #[tactic(auto, unfolding(crate::specs::Contents::contents, picky_fields::specs::Fields::enclosed_at, picky_fields::specs::Fields::run_at))]
-    fn read_der(
-        alloc: Global,
-        reader: &mut DerReader<'_>,
-    ) -> Result<SafeContentsInfo<B>, DerError> {
-        let mut ahead = reader.fork();
-        let mut fields = ahead.nested(Tag::SEQUENCE)?;
-        let content_type = ObjectIdentifier::read_der(alloc, &mut fields)?;
-        let contents = read_content(alloc, content_type, &mut fields)?;
-        fields.end()?;
-        *reader = ahead;
-        Ok(contents)
-    }
-
-    ghost readable = { (contents_lawful (record { readable = B.readable; writable = B.writable })).readable };
-}
-
 #[tactic(auto, unfolding(crate::specs::Contents::in_octets, picky_fields::specs::Fields::explicit))]
 fn write_bags<B: DerWrite>(alloc: Global, bags: &B, out: &mut Vec<u8>) -> Result<(), DerError>
     ensures { Writes (λ s. (explicit 0 (in_octets B.form)).Encodes s (B.stands_for bags.now)) ((explicit 0 (in_octets B.form)).Refused (B.stands_for bags.now)) result out.old.items out.new.items }
@@ -150,30 +149,61 @@ fn write_bags<B: DerWrite>(alloc: Global, bags: &B, out: &mut Vec<u8>) -> Result
     write_value(out, Tag(160), &octets)
 }
 
-impl<B: DerRead + DerWrite + Drop> DerWrite for SafeContentsInfo<B> {
-    #[tactic(auto, unfolding(crate::specs::Contents::contents, crate::specs::Contents::contents_cases))]
-    fn write_der(&self, alloc: Global, out: &mut Vec<u8>) -> Result<(), DerError> {
-        let mut fields = Vec::new(alloc);
+impl<B: DerRead + DerWrite + Drop> DerRecord for SafeContentsInfo<B> {
+    ghost fields = { fields_by (contents_seen B.stands_for) (contents_fields B.form) };
+
+    #[tactic(auto, unfolding(crate::specs::Contents::contents_fields))]
+    fn read_fields(
+        alloc: Global,
+        reader: &mut DerReader<'_>,
+    ) -> Result<SafeContentsInfo<B>, DerError> {
+        let content_type = ObjectIdentifier::read_der(alloc, reader)?;
+        read_content(alloc, content_type, reader)
+    }
+
+    #[tactic(auto, unfolding(crate::specs::Contents::contents_fields, crate::specs::Contents::contents_cases))]
+    fn write_fields(&self, alloc: Global, out: &mut Vec<u8>) -> Result<(), DerError> {
         match self {
             SafeContentsInfo::Data(bags) => {
-                KnownIdentifier::Data.write(&mut fields)?;
-                write_bags(alloc, bags, &mut fields)?;
-                write_value(out, Tag::SEQUENCE, &fields)
+                KnownIdentifier::Data.write(out)?;
+                write_bags(alloc, bags, out)
             }
             SafeContentsInfo::EncryptedData(part) => {
-                KnownIdentifier::EncryptedData.write(&mut fields)?;
-                write_explicit(alloc, 0, part, &mut fields)?;
-                write_value(out, Tag::SEQUENCE, &fields)
+                KnownIdentifier::EncryptedData.write(out)?;
+                write_explicit(alloc, 0, part, out)
             }
             SafeContentsInfo::Unknown {
                 content_type,
                 content,
             } => {
-                content_type.write_der(alloc, &mut fields)?;
-                write_optional_explicit(alloc, 0, content, &mut fields)?;
-                write_value(out, Tag::SEQUENCE, &fields)
+                content_type.write_der(alloc, out)?;
+                write_optional_explicit(alloc, 0, content, out)
             }
         }
+    }
+}
+
+impl<B: DerRead + DerWrite + Drop> DerRead for SafeContentsInfo<B> {
+    #[tactic(auto, unfolding(crate::specs::Contents::contents))]
+    fn begins_with(tag: Tag) -> bool {
+        tag == Tag::SEQUENCE
+    }
+
+    #[tactic(auto, unfolding(crate::specs::Contents::contents))]
+    fn read_der(
+        alloc: Global,
+        reader: &mut DerReader<'_>,
+    ) -> Result<SafeContentsInfo<B>, DerError> {
+        read_record(alloc, reader)
+    }
+
+    ghost readable = { (contents_lawful (record { readable = B.readable; writable = B.writable })).readable };
+}
+
+impl<B: DerRead + DerWrite + Drop> DerWrite for SafeContentsInfo<B> {
+    #[tactic(auto, unfolding(crate::specs::Contents::contents))]
+    fn write_der(&self, alloc: Global, out: &mut Vec<u8>) -> Result<(), DerError> {
+        write_record(alloc, self, out)
     }
 
     ghost writable = { (contents_lawful (record { readable = B.readable; writable = B.writable })).writable };

@@ -1,14 +1,14 @@
 // Encrypted keys in bags.
-#![tactic(auto, unfolding(crate::specs::EncryptedKey::encrypted_key, picky_fields::specs::Fields::enclosed_at, picky_fields::specs::Fields::run_at))]
-
 ghost use Rattle.std.specs.Prelude.{◌≡◌, IfOk};
+ghost use Rattle.picky_fields.specs.Fields.{octet_string, one, ◌and◌};
+ghost use Rattle.picky_fields.specs.Records.{fields_by, ReadsFields};
 ghost use Rattle.picky_x509_bags.specs.declared.encrypted_key.EncryptedKeyBag.{EncryptedKeyBag as Key};
-ghost use Rattle.picky_x509_bags.specs.EncryptedKey.{encrypted_key, encrypted_key_lawful};
+ghost use Rattle.picky_x509_bags.specs.EncryptedKey.{encrypted_key_fields, encrypted_key, encrypted_key_lawful};
 
 use picky_asn1_tag::{Asn1Value, CopyIn, Tag};
 use picky_contract::Bytes;
-use picky_der::{DerError, DerForm, DerRead, DerReader, DerWrite, write_value};
-use picky_fields::{read_octets, write_octets};
+use picky_der::{DerError, DerForm, DerRead, DerReader, DerWrite};
+use picky_fields::{DerRecord, read_octets, read_record, write_octets, write_record};
 use picky_x509_algorithms::Pkcs12EncryptionAlgorithm;
 use std::alloc::{AllocError, Global};
 
@@ -26,9 +26,11 @@ impl EncryptedKeyBag {
     pub fn clone(&self, alloc: Global) -> Result<EncryptedKeyBag, AllocError>
         ensures { IfOk result (λ copy. copy ≡ self.now) }
     {
+        let encrypted_data = self.encrypted_data.clone(alloc)?;
+        let algorithm = self.algorithm.clone(alloc)?;
         Ok(EncryptedKeyBag {
-            algorithm: self.algorithm.clone(alloc)?,
-            encrypted_data: self.encrypted_data.clone(alloc)?,
+            algorithm,
+            encrypted_data,
         })
     }
 }
@@ -56,33 +58,55 @@ impl DerForm for EncryptedKeyBag {
     ghost same_value = { λ _ _ e. e };
 }
 
-impl DerRead for EncryptedKeyBag {
-    fn begins_with(tag: Tag) -> bool {
-        tag == Tag::SEQUENCE
-    }
+// A value of any type, and the OCTET STRING behind it.
+fn read_with_octets<T: DerRead + Drop>(
+    alloc: Global,
+    reader: &mut DerReader<'_>,
+) -> Result<(T, Bytes), DerError>
+    ensures { ReadsFields (λ x. (T.stands_for x.0, x.1)) (one T.form and one octet_string) reader.old result reader.new }
+{
+    let value = T::read_der(alloc, reader)?;
+    let octets = Bytes::new(read_octets(alloc, reader)?);
+    Ok((value, octets))
+}
 
-    fn read_der(alloc: Global, reader: &mut DerReader<'_>) -> Result<EncryptedKeyBag, DerError> {
-        let mut ahead = reader.fork();
-        let mut fields = ahead.nested(Tag::SEQUENCE)?;
-        let algorithm = Pkcs12EncryptionAlgorithm::read_der(alloc, &mut fields)?;
-        let encrypted_data = Bytes::new(read_octets(alloc, &mut fields)?);
-        fields.end()?;
-        *reader = ahead;
+impl DerRecord for EncryptedKeyBag {
+    ghost fields = { fields_by (λ k. k) encrypted_key_fields };
+
+    #[tactic(auto, unfolding(crate::specs::EncryptedKey::encrypted_key_fields))]
+    fn read_fields(alloc: Global, reader: &mut DerReader<'_>) -> Result<EncryptedKeyBag, DerError> {
+        let (algorithm, encrypted_data) = read_with_octets(alloc, reader)?;
         Ok(EncryptedKeyBag {
             algorithm,
             encrypted_data,
         })
     }
 
+    #[tactic(auto, unfolding(crate::specs::EncryptedKey::encrypted_key_fields))]
+    fn write_fields(&self, alloc: Global, out: &mut Vec<u8>) -> Result<(), DerError> {
+        self.algorithm.write_der(alloc, out)?;
+        write_octets(self.encrypted_data.as_slice(), out)
+    }
+}
+
+impl DerRead for EncryptedKeyBag {
+    #[tactic(auto, unfolding(crate::specs::EncryptedKey::encrypted_key))]
+    fn begins_with(tag: Tag) -> bool {
+        tag == Tag::SEQUENCE
+    }
+
+    #[tactic(auto, unfolding(crate::specs::EncryptedKey::encrypted_key))]
+    fn read_der(alloc: Global, reader: &mut DerReader<'_>) -> Result<EncryptedKeyBag, DerError> {
+        read_record(alloc, reader)
+    }
+
     ghost readable = { encrypted_key_lawful.readable };
 }
 
 impl DerWrite for EncryptedKeyBag {
+    #[tactic(auto, unfolding(crate::specs::EncryptedKey::encrypted_key))]
     fn write_der(&self, alloc: Global, out: &mut Vec<u8>) -> Result<(), DerError> {
-        let mut fields = Vec::new(alloc);
-        self.algorithm.write_der(alloc, &mut fields)?;
-        write_octets(self.encrypted_data.as_slice(), &mut fields)?;
-        write_value(out, Tag::SEQUENCE, &fields)
+        write_record(alloc, self, out)
     }
 
     ghost writable = { encrypted_key_lawful.writable };

@@ -1,19 +1,21 @@
 // Bags are read, nested so many levels at most.
 ghost use Rattle.std.specs.Prelude.{◌≡◌, length};
-ghost use Rattle.picky_der.specs.Reading.{Reads};
+ghost use Rattle.picky_der.specs.Reading.{Gives, Reads};
 ghost use Rattle.picky_fields.specs.Fields.{explicit, run_at, seen_at};
 ghost use Rattle.picky_asn1_wrapper.specs.Lists.{items_at, list_form};
 ghost use Rattle.picky_x509_safe_bags.specs.Kind.{other_of, other_cases, kind_of, held_cases};
 ghost use Rattle.picky_x509_safe_bags.specs.Bag.{bag_fields, bag_within};
 ghost use Rattle.picky_x509_safe_bags.specs.Levels.{GivesLevels, ReadsLevels};
+ghost use Rattle.picky_x509_safe_bags.specs.Steps.{attributes_at, last_at};
 
 use crate::safe_bag::{SafeBag, SafeBagKind};
 use picky_asn1_oid::ObjectIdentifier;
 use picky_asn1_tag::Tag;
+use picky_asn1_wrapper::Asn1SetOf;
 use picky_der::{DerError, DerRead, DerReader};
 use picky_fields::read_explicit;
 use picky_x509_algorithms::KnownIdentifier;
-use picky_x509_bags::read_attributes;
+use picky_x509_bags::{Pkcs12Attribute, read_attributes};
 use sqlite_items::Items;
 use std::alloc::Global;
 
@@ -43,6 +45,26 @@ fn read_other(
     }
     let value = read_explicit(alloc, 0, reader)?;
     Ok(SafeBagKind::Unknown { type_id, value })
+}
+
+// The value, and the attributes that stand behind it.
+fn with_attributes<T: Drop>(
+    alloc: Global,
+    value: T,
+    reader: &mut DerReader<'_>,
+) -> Result<(T, Option<Asn1SetOf<Pkcs12Attribute>>), DerError>
+    ensures { Gives (λ x. (x, reader.new.left)) result (attributes_at value reader.old.depth reader.old.left) }
+{
+    let attributes = read_attributes(alloc, reader)?;
+    Ok((value, attributes))
+}
+
+// The value, where nothing stands behind it.
+fn at_end<T: Drop>(value: T, reader: &DerReader<'_>) -> Result<T, DerError>
+    ensures { Gives (λ x. x) result (last_at value reader.now.left) }
+{
+    reader.end()?;
+    Ok(value)
 }
 
 #[cycle(read)]
@@ -132,9 +154,8 @@ fn read_fields(
     let Some(kind) = read_kind(alloc, type_id, &mut fields, levels)? else {
         return Ok(None);
     };
-    let attributes = read_attributes(alloc, &mut fields)?;
-    fields.end()?;
-    Ok(Some(SafeBag { kind, attributes }))
+    let (kind, attributes) = with_attributes(alloc, kind, &mut fields)?;
+    Ok(Some(at_end(SafeBag { kind, attributes }, &fields)?))
 }
 
 #[cycle(read)]

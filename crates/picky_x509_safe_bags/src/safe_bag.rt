@@ -83,9 +83,8 @@ impl SafeBag {
     pub fn clone(&self, alloc: Global) -> Result<SafeBag, AllocError>
         ensures { IfOk result (λ copy. copy ≡ self.now) }
     {
-        Ok(SafeBag {
-            kind: copy_kind(alloc, &self.kind)?,
-            attributes: copy_attributes(alloc, &self.attributes)?,
-        })
+        let attributes = copy_attributes(alloc, &self.attributes)?;
+        let kind = copy_kind(alloc, &self.kind)?;
+        Ok(SafeBag { kind, attributes })
     }
 }

@@ -43,10 +43,7 @@ const ENOUGH_LEVELS: u32 = 86;
 fn read_any(alloc: Global, reader: &mut DerReader<'_>) -> Result<SafeBag, DerError>
     ensures { Reads (λ b. b) safe_bag.reading reader.old result reader.new }
 {
-    match read_bag(alloc, reader, ENOUGH_LEVELS)? {
-        Some(bag) => Ok(bag),
-        None => Err(DerError::TooDeep),
-    }
+    read_bag(alloc, reader, ENOUGH_LEVELS)?.ok_or(DerError::TooDeep)
 }
 
 impl DerRead for SafeBag {

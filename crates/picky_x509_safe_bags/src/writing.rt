@@ -2,8 +2,10 @@
 ghost use Rattle.std.specs.Prelude.{◌≡◌, [], ◌⊎◌, OnOk, IfErr};
 ghost use Rattle.picky_der.specs.declared.fault.DerError.TheVariants.{OutOfMemory, BadValue};
 ghost use Rattle.picky_der.specs.Form.{Writes};
-ghost use Rattle.picky_fields.specs.Fields.{explicit, sequence};
+ghost use Rattle.picky_fields.specs.Fields.{explicit, identifier, one, ◌and◌, sequence};
+ghost use Rattle.picky_fields.specs.Records.{WritesFields};
 ghost use Rattle.picky_asn1_wrapper.specs.Lists.{SpellsAll, SomeRefused};
+ghost use Rattle.picky_x509_algorithms.specs.Identifiers.{arcs};
 ghost use Rattle.picky_x509_safe_bags.specs.Kind.{bag_list};
 ghost use Rattle.picky_x509_safe_bags.specs.Bag.{kind_field, bag_fields, safe_bag};
 
@@ -46,6 +48,20 @@ fn write_inner(alloc: Global, bags: &[SafeBag], out: &mut Vec<u8>) -> Result<(),
     write_value(out, Tag(160), &contents)
 }
 
+// An identifier and the value behind it, into an empty vector.
+fn write_known<T: DerWrite>(
+    alloc: Global,
+    id: KnownIdentifier,
+    value: &T,
+    out: &mut Vec<u8>,
+) -> Result<(), DerError>
+    requires { out.old.items ≡ [] }
+    ensures { WritesFields (one identifier and one (explicit 0 T.form)) (arcs id, T.stands_for value.now) result out.new.items }
+{
+    id.write(out)?;
+    write_explicit(alloc, 0, value, out)
+}
+
 // The identifier and the value, into an empty vector.
 #[cycle(write)]
 #[tactic(auto, unfolding(crate::specs::Bag::kind_field, crate::specs::Kind::held_cases, crate::specs::Kind::other_cases))]
@@ -55,26 +71,13 @@ fn write_kind(alloc: Global, kind: &SafeBagKind, out: &mut Vec<u8>) -> Result<()
     ensures err { IfErr result (λ e. (e ≡ OutOfMemory) ⊎ ((e ≡ BadValue) × (kind_field safe_bag).Refused kind.now)) }
 {
     match kind {
-        SafeBagKind::Key(key) => {
-            KnownIdentifier::KeyBag.write(out)?;
-            write_explicit(alloc, 0, key, out)
-        }
+        SafeBagKind::Key(key) => write_known(alloc, KnownIdentifier::KeyBag, key, out),
         SafeBagKind::EncryptedKey(bag) => {
-            KnownIdentifier::Pkcs8ShroudedKeyBag.write(out)?;
-            write_explicit(alloc, 0, bag, out)
+            write_known(alloc, KnownIdentifier::Pkcs8ShroudedKeyBag, bag, out)
         }
-        SafeBagKind::Certificate(bag) => {
-            KnownIdentifier::CertBag.write(out)?;
-            write_explicit(alloc, 0, bag, out)
-        }
-        SafeBagKind::Crl(crl) => {
-            KnownIdentifier::CrlBag.write(out)?;
-            write_explicit(alloc, 0, crl, out)
-        }
-        SafeBagKind::Secret(bag) => {
-            KnownIdentifier::SecretBag.write(out)?;
-            write_explicit(alloc, 0, bag, out)
-        }
+        SafeBagKind::Certificate(bag) => write_known(alloc, KnownIdentifier::CertBag, bag, out),
+        SafeBagKind::Crl(crl) => write_known(alloc, KnownIdentifier::CrlBag, crl, out),
+        SafeBagKind::Secret(bag) => write_known(alloc, KnownIdentifier::SecretBag, bag, out),
         SafeBagKind::SafeContents(bags) => {
             KnownIdentifier::SafeContentsBag.write(out)?;
             write_inner(alloc, bags.as_slice(), out)

@@ -46,8 +46,11 @@ info_view e = ((tt, e.algorithm), e.encrypted_content)
 abbrev pub encrypted_parts : EncryptedSafeContents → Unit {0} × InfoValue
 encrypted_parts e = (tt, info_view e)
 
+unfoldable pub encrypted_fields : Fields EncryptedSafeContents
+encrypted_fields = seen encrypted_of encrypted_parts (only_zero and one info)
+
 unfoldable pub encrypted : Form EncryptedSafeContents
-encrypted = sequence (seen encrypted_of encrypted_parts (only_zero and one info))
+encrypted = sequence encrypted_fields
 
 -- ---- laws
 
@@ -71,5 +74,5 @@ zero_tells : Tells (natural (2 ^ 8)).in_form 0 (λ n. n == 0)
 zero_tells = record { formed = omega arith; holds = refl; alone = λ n _ e. eqb-true n 0 e }
 
 pub encrypted_lawful : Lawful encrypted
-unfolding encrypted
+unfolding encrypted encrypted_fields
 encrypted_lawful = sequence_lawful (seen_lawful (one_to_one {to = encrypted_of} {from = encrypted_parts} (λ _. refl) (λ _. refl)) (and_lawful (λ _ _. refl) (only_lawful zero_tells (natural_lawful (2 ^ 8) (omega arith))) (one_lawful info_lawful)))

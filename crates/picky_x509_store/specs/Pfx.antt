@@ -3,7 +3,7 @@ use Rattle.std.specs.Prelude.{ℕ, ◌^◌, List, Option, ◌⊎◌}
 use Rattle.std.proofs.Common.{◌≡◌, refl, arith, inl, inr}
 use Rattle.picky_der.specs.Form.{Form}
 use Rattle.picky_der.specs.Raw.{raw_form}
-use Rattle.picky_fields.specs.Fields.{natural, identifier, octet_string, explicit, one, optional, ◌and◌, seen, sequence}
+use Rattle.picky_fields.specs.Fields.{Fields, natural, identifier, octet_string, explicit, one, optional, ◌and◌, seen, sequence}
 use Rattle.picky_fields.specs.Choice.{Cases, case, otherwise, told_by}
 use Rattle.picky_fields.specs.laws.Fields.{Lawful, one_lawful, and_lawful, one_to_one, seen_lawful, sequence_lawful, explicit_lawful}
 use Rattle.picky_fields.specs.laws.Choice.{LawfulCases, case_lawful, otherwise_lawful, told_lawful}
@@ -32,8 +32,11 @@ safe_parts (Unknown t c) = inr (t, c)
 unfoldable pub safe_cases : Cases (List ℕ) SafeValue
 safe_cases = case (arcs known.Data) (is_known known.Data) (one (explicit 0 octet_string)) (otherwise (optional (explicit 0 raw_form)))
 
+unfoldable pub safe_fields : Fields RawAuthenticatedSafe
+safe_fields = seen safe_of safe_parts (told_by identifier safe_cases)
+
 unfoldable pub safe : Form RawAuthenticatedSafe
-safe = sequence (seen safe_of safe_parts (told_by identifier safe_cases))
+safe = sequence safe_fields
 
 abbrev pub pfx_of : (ℕ × RawAuthenticatedSafe) × Option MacData → RawPfx
 pfx_of x = record { version = x.0.0; auth_safe = x.0.1; mac_data = x.1 }
@@ -45,8 +48,11 @@ pfx_parts p = ((p.version, p.auth_safe), p.mac_data)
 unfoldable pub version : Form ℕ
 version = natural (2 ^ 8)
 
+unfoldable pub pfx_fields : Fields RawPfx
+pfx_fields = seen pfx_of pfx_parts (one version and one safe and optional mac_data)
+
 unfoldable pub pfx : Form RawPfx
-pfx = sequence (seen pfx_of pfx_parts (one version and one safe and optional mac_data))
+pfx = sequence pfx_fields
 
 -- ---- laws
 
@@ -66,7 +72,7 @@ safe_cases_lawful =
     case_lawful (tells known.Data) octets (otherwise_lawful other)
 
 pub safe_lawful : Lawful safe
-unfolding safe
+unfolding safe safe_fields
 safe_lawful = sequence_lawful (seen_lawful (one_to_one {to = safe_of} {from = safe_parts} safe_back safe_forth) (told_lawful identifier_lawful safe_cases_lawful))
 
 version_lawful : Lawful version
@@ -74,7 +80,7 @@ unfolding version
 version_lawful = natural_lawful (2 ^ 8) (omega arith)
 
 pub pfx_lawful : Lawful pfx
-unfolding pfx
+unfolding pfx pfx_fields
 pfx_lawful =
     let front = and_lawful (λ _ _. refl) (one_lawful version_lawful) (one_lawful safe_lawful) in
     sequence_lawful (seen_lawful (one_to_one {to = pfx_of} {from = pfx_parts} (λ _. refl) (λ _. refl)) (and_lawful (λ _ _. refl) front (optional_lawful mac_data_lawful)))

@@ -1,17 +1,19 @@
 // Encrypted parts.
-ghost use Rattle.std.specs.Prelude.{◌≡◌, IfOk};
-ghost use Rattle.picky_der.specs.Reading.{Reads, Gives};
+ghost use Rattle.std.specs.Prelude.{◌≡◌, ◌==◌, IfOk};
+ghost use Rattle.picky_der.specs.Reading.{Reads};
 ghost use Rattle.picky_der.specs.Form.{Writes};
-ghost use Rattle.picky_fields.specs.Fields.{Encloses, identifier, natural, only, optional, SpellsOptional, run_at, seen_at};
+ghost use Rattle.picky_fields.specs.Fields.{Encloses, identifier, natural, only, optional, stands_next, SpellsOptional, run_at, seen_at};
+ghost use Rattle.picky_fields.specs.Records.{fields_by};
 ghost use Rattle.picky_x509_algorithms.specs.declared.known_identifier.KnownIdentifier.TheVariants as known;
 ghost use Rattle.picky_x509_algorithms.specs.Identifiers.{arcs, is_known};
 ghost use Rattle.picky_x509_store.specs.declared.encrypted.EncryptedSafeContents.{EncryptedSafeContents as Contents};
-ghost use Rattle.picky_x509_store.specs.Encrypted.{only_data, only_zero, tagged_octets, info, info_view, encrypted, encrypted_lawful};
+ghost use Rattle.picky_x509_store.specs.Encrypted.{only_data, only_zero, tagged_octets, info, info_view, encrypted_fields, encrypted, encrypted_lawful};
 
 use picky_asn1_oid::ObjectIdentifier;
 use picky_asn1_tag::{Asn1Value, CopyIn, Tag};
 use picky_contract::Bytes;
 use picky_der::{DerError, DerForm, DerRead, DerReader, DerWrite, write_value};
+use picky_fields::{DerRecord, read_record, write_record};
 use picky_x509_algorithms::{KnownIdentifier, Pkcs12EncryptionAlgorithm};
 use std::alloc::{AllocError, Global};
 
@@ -38,9 +40,10 @@ impl EncryptedSafeContents {
     pub fn clone(&self, alloc: Global) -> Result<EncryptedSafeContents, AllocError>
         ensures { IfOk result (λ copy. copy ≡ self.now) }
     {
+        let encrypted_content = copy_content(alloc, &self.encrypted_content)?;
         Ok(EncryptedSafeContents {
             algorithm: self.algorithm.clone(alloc)?,
-            encrypted_content: copy_content(alloc, &self.encrypted_content)?,
+            encrypted_content,
         })
     }
 }
@@ -92,20 +95,36 @@ fn read_data(alloc: Global, reader: &mut DerReader<'_>) -> Result<(), DerError>
     Ok(())
 }
 
-// An OCTET STRING in an implicit tag 0, where that tag stands next.
-#[tactic(auto, unfolding(crate::specs::Encrypted::tagged_octets, picky_fields::specs::Fields::optional_at, picky_der::specs::Primitive::primitive_at, picky_der::specs::Reading::tag_at))]
-fn read_tagged(alloc: Global, reader: &mut DerReader<'_>) -> Result<Option<Bytes>, DerError>
-    ensures { Reads (λ o. o) (optional tagged_octets).reading reader.old result reader.new }
+#[tactic(auto, unfolding(picky_der::specs::Reading::tag_at))]
+fn tagged_stands_next(reader: &DerReader<'_>) -> bool
+    ensures { result ≡ stands_next (λ b. b == 128) reader.now.left }
 {
     match reader.peek_tag() {
-        Ok(peeker) if peeker.next_tag.0 == 128 => {
-            let mut ahead = reader.fork();
-            let octets = Bytes::new(Vec::from_slice(alloc, ahead.read_value(Tag(128))?)?);
-            *reader = ahead;
-            Ok(Some(octets))
-        }
-        _ => Ok(None),
+        Ok(peeker) => peeker.next_tag.0 == 128,
+        Err(_) => false,
     }
+}
+
+// An OCTET STRING in an implicit tag 0.
+#[tactic(auto, unfolding(crate::specs::Encrypted::tagged_octets, picky_der::specs::Primitive::primitive_at))]
+fn read_tagged(alloc: Global, reader: &mut DerReader<'_>) -> Result<Bytes, DerError>
+    ensures { Reads (λ o. o) tagged_octets.reading reader.old result reader.new }
+{
+    let mut ahead = reader.fork();
+    let octets = Vec::from_slice(alloc, ahead.read_value(Tag(128))?)?;
+    *reader = ahead;
+    Ok(Bytes::new(octets))
+}
+
+// The same where that tag stands next.
+#[tactic(auto, unfolding(crate::specs::Encrypted::tagged_octets, picky_fields::specs::Fields::optional_at))]
+fn read_content(alloc: Global, reader: &mut DerReader<'_>) -> Result<Option<Bytes>, DerError>
+    ensures { Reads (λ o. o) (optional tagged_octets).reading reader.old result reader.new }
+{
+    if !tagged_stands_next(reader) {
+        return Ok(None);
+    }
+    Ok(Some(read_tagged(alloc, reader)?))
 }
 
 #[tactic(auto, unfolding(crate::specs::Encrypted::info, picky_fields::specs::Fields::enclosed_at, picky_fields::specs::Fields::run_at))]
@@ -116,36 +135,26 @@ fn read_info(alloc: Global, reader: &mut DerReader<'_>) -> Result<EncryptedSafeC
     let mut fields = ahead.nested(Tag::SEQUENCE)?;
     read_data(alloc, &mut fields)?;
     let algorithm = Pkcs12EncryptionAlgorithm::read_der(alloc, &mut fields)?;
-    let encrypted_content = read_tagged(alloc, &mut fields)?;
-    fields.end()?;
-    *reader = ahead;
-    Ok(EncryptedSafeContents {
-        algorithm,
-        encrypted_content,
-    })
-}
-
-impl DerRead for EncryptedSafeContents {
-    #[tactic(auto, unfolding(crate::specs::Encrypted::encrypted))]
-    fn begins_with(tag: Tag) -> bool {
-        tag == Tag::SEQUENCE
+    let encrypted_content = match read_content(alloc, &mut fields) {
+        Ok(encrypted_content) => encrypted_content,
+        Err(fault) => {
+            drop(algorithm);
+            return Err(fault);
+        }
+    };
+    match fields.end() {
+        Ok(()) => {
+            *reader = ahead;
+            Ok(EncryptedSafeContents {
+                algorithm,
+                encrypted_content,
+            })
+        }
+        Err(fault) => {
+            drop(algorithm);
+            Err(fault)
+        }
     }
-
-    #[tactic(auto, unfolding(crate::specs::Encrypted::encrypted, picky_fields::specs::Fields::enclosed_at, picky_fields::specs::Fields::run_at))]
-    fn read_der(
-        alloc: Global,
-        reader: &mut DerReader<'_>,
-    ) -> Result<EncryptedSafeContents, DerError> {
-        let mut ahead = reader.fork();
-        let mut fields = ahead.nested(Tag::SEQUENCE)?;
-        read_version(alloc, &mut fields)?;
-        let contents = read_info(alloc, &mut fields)?;
-        fields.end()?;
-        *reader = ahead;
-        Ok(contents)
-    }
-
-    ghost readable = { encrypted_lawful.readable };
 }
 
 #[tactic(auto, unfolding(crate::specs::Encrypted::tagged_octets))]
@@ -173,13 +182,46 @@ fn write_info(
     write_value(out, Tag::SEQUENCE, &fields)
 }
 
+impl DerRecord for EncryptedSafeContents {
+    ghost fields = { fields_by (λ x. x) encrypted_fields };
+
+    #[tactic(auto, unfolding(crate::specs::Encrypted::encrypted_fields))]
+    fn read_fields(
+        alloc: Global,
+        reader: &mut DerReader<'_>,
+    ) -> Result<EncryptedSafeContents, DerError> {
+        read_version(alloc, reader)?;
+        read_info(alloc, reader)
+    }
+
+    #[tactic(auto, unfolding(crate::specs::Encrypted::encrypted_fields))]
+    fn write_fields(&self, alloc: Global, out: &mut Vec<u8>) -> Result<(), DerError> {
+        0u8.write_der(alloc, out)?;
+        write_info(alloc, self, out)
+    }
+}
+
+impl DerRead for EncryptedSafeContents {
+    #[tactic(auto, unfolding(crate::specs::Encrypted::encrypted))]
+    fn begins_with(tag: Tag) -> bool {
+        tag == Tag::SEQUENCE
+    }
+
+    #[tactic(auto, unfolding(crate::specs::Encrypted::encrypted))]
+    fn read_der(
+        alloc: Global,
+        reader: &mut DerReader<'_>,
+    ) -> Result<EncryptedSafeContents, DerError> {
+        read_record(alloc, reader)
+    }
+
+    ghost readable = { encrypted_lawful.readable };
+}
+
 impl DerWrite for EncryptedSafeContents {
     #[tactic(auto, unfolding(crate::specs::Encrypted::encrypted))]
     fn write_der(&self, alloc: Global, out: &mut Vec<u8>) -> Result<(), DerError> {
-        let mut fields = Vec::new(alloc);
-        0u8.write_der(alloc, &mut fields)?;
-        write_info(alloc, self, &mut fields)?;
-        write_value(out, Tag::SEQUENCE, &fields)
+        write_record(alloc, self, out)
     }
 
     ghost writable = { encrypted_lawful.writable };

@@ -1,15 +1,16 @@
 // The MAC of a store.
-#![tactic(auto, unfolding(crate::specs::Mac::digest_info, crate::specs::Mac::mac_data, picky_fields::specs::Fields::enclosed_at, picky_fields::specs::Fields::run_at))]
-
 ghost use Rattle.std.specs.Prelude.{◌≡◌, IfOk};
+ghost use Rattle.picky_fields.specs.Records.{fields_by};
 ghost use Rattle.picky_x509_store.specs.declared.mac.DigestInfo.{DigestInfo as Digested};
 ghost use Rattle.picky_x509_store.specs.declared.mac.MacData.{MacData as Mac};
-ghost use Rattle.picky_x509_store.specs.Mac.{digest_info, digest_info_lawful, mac_data, mac_data_lawful};
+ghost use Rattle.picky_x509_store.specs.Mac.{digest_info_fields, digest_info, digest_info_lawful, mac_fields, mac_data, mac_data_lawful};
 
 use picky_asn1_tag::{Asn1Value, CopyIn, Tag};
 use picky_contract::Bytes;
-use picky_der::{DerError, DerForm, DerRead, DerReader, DerWrite, write_value};
-use picky_fields::{read_octets, write_octets, write_optional};
+use picky_der::{DerError, DerForm, DerRead, DerReader, DerWrite};
+use picky_fields::{
+    DerRecord, read_octets, read_record, write_octets, write_optional, write_record,
+};
 use picky_x509_algorithms::{Pkcs12DigestAlgorithm, read_optional_count};
 use std::alloc::{AllocError, Global};
 
@@ -27,9 +28,10 @@ impl DigestInfo {
     pub fn clone(&self, alloc: Global) -> Result<DigestInfo, AllocError>
         ensures { IfOk result (λ copy. copy ≡ self.now) }
     {
+        let digest = self.digest.clone(alloc)?;
         Ok(DigestInfo {
             digest_algorithm: self.digest_algorithm.clone(alloc)?,
-            digest: self.digest.clone(alloc)?,
+            digest,
         })
     }
 }
@@ -57,33 +59,49 @@ impl DerForm for DigestInfo {
     ghost same_value = { λ _ _ e. e };
 }
 
+impl DerRecord for DigestInfo {
+    ghost fields = { fields_by (λ x. x) digest_info_fields };
+
+    #[tactic(auto, unfolding(crate::specs::Mac::digest_info_fields))]
+    fn read_fields(alloc: Global, reader: &mut DerReader<'_>) -> Result<DigestInfo, DerError> {
+        let digest_algorithm = Pkcs12DigestAlgorithm::read_der(alloc, reader)?;
+        match read_octets(alloc, reader) {
+            Ok(digest) => Ok(DigestInfo {
+                digest_algorithm,
+                digest: Bytes::new(digest),
+            }),
+            Err(fault) => {
+                drop(digest_algorithm);
+                Err(fault)
+            }
+        }
+    }
+
+    #[tactic(auto, unfolding(crate::specs::Mac::digest_info_fields))]
+    fn write_fields(&self, alloc: Global, out: &mut Vec<u8>) -> Result<(), DerError> {
+        self.digest_algorithm.write_der(alloc, out)?;
+        write_octets(self.digest.as_slice(), out)
+    }
+}
+
 impl DerRead for DigestInfo {
+    #[tactic(auto, unfolding(crate::specs::Mac::digest_info))]
     fn begins_with(tag: Tag) -> bool {
         tag == Tag::SEQUENCE
     }
 
+    #[tactic(auto, unfolding(crate::specs::Mac::digest_info))]
     fn read_der(alloc: Global, reader: &mut DerReader<'_>) -> Result<DigestInfo, DerError> {
-        let mut ahead = reader.fork();
-        let mut fields = ahead.nested(Tag::SEQUENCE)?;
-        let digest_algorithm = Pkcs12DigestAlgorithm::read_der(alloc, &mut fields)?;
-        let digest = Bytes::new(read_octets(alloc, &mut fields)?);
-        fields.end()?;
-        *reader = ahead;
-        Ok(DigestInfo {
-            digest_algorithm,
-            digest,
-        })
+        read_record(alloc, reader)
     }
 
     ghost readable = { digest_info_lawful.readable };
 }
 
 impl DerWrite for DigestInfo {
+    #[tactic(auto, unfolding(crate::specs::Mac::digest_info))]
     fn write_der(&self, alloc: Global, out: &mut Vec<u8>) -> Result<(), DerError> {
-        let mut fields = Vec::new(alloc);
-        self.digest_algorithm.write_der(alloc, &mut fields)?;
-        write_octets(self.digest.as_slice(), &mut fields)?;
-        write_value(out, Tag::SEQUENCE, &fields)
+        write_record(alloc, self, out)
     }
 
     ghost writable = { digest_info_lawful.writable };
@@ -105,9 +123,10 @@ impl MacData {
     pub fn clone(&self, alloc: Global) -> Result<MacData, AllocError>
         ensures { IfOk result (λ copy. copy ≡ self.now) }
     {
+        let salt = self.salt.clone(alloc)?;
         Ok(MacData {
             mac: self.mac.clone(alloc)?,
-            salt: self.salt.clone(alloc)?,
+            salt,
             iterations: self.iterations,
         })
     }
@@ -136,37 +155,58 @@ impl DerForm for MacData {
     ghost same_value = { λ _ _ e. e };
 }
 
+impl DerRecord for MacData {
+    ghost fields = { fields_by (λ x. x) mac_fields };
+
+    #[tactic(auto, unfolding(crate::specs::Mac::mac_fields))]
+    fn read_fields(alloc: Global, reader: &mut DerReader<'_>) -> Result<MacData, DerError> {
+        let mac = DigestInfo::read_der(alloc, reader)?;
+        let salt = match read_octets(alloc, reader) {
+            Ok(salt) => Bytes::new(salt),
+            Err(fault) => {
+                drop(mac);
+                return Err(fault);
+            }
+        };
+        match read_optional_count(alloc, reader) {
+            Ok(iterations) => Ok(MacData {
+                mac,
+                salt,
+                iterations,
+            }),
+            Err(fault) => {
+                drop(mac);
+                Err(fault)
+            }
+        }
+    }
+
+    #[tactic(auto, unfolding(crate::specs::Mac::mac_fields, picky_x509_algorithms::specs::Counts::count))]
+    fn write_fields(&self, alloc: Global, out: &mut Vec<u8>) -> Result<(), DerError> {
+        self.mac.write_der(alloc, out)?;
+        write_octets(self.salt.as_slice(), out)?;
+        write_optional(alloc, &self.iterations, out)
+    }
+}
+
 impl DerRead for MacData {
+    #[tactic(auto, unfolding(crate::specs::Mac::mac_data))]
     fn begins_with(tag: Tag) -> bool {
         tag == Tag::SEQUENCE
     }
 
+    #[tactic(auto, unfolding(crate::specs::Mac::mac_data))]
     fn read_der(alloc: Global, reader: &mut DerReader<'_>) -> Result<MacData, DerError> {
-        let mut ahead = reader.fork();
-        let mut fields = ahead.nested(Tag::SEQUENCE)?;
-        let mac = DigestInfo::read_der(alloc, &mut fields)?;
-        let salt = Bytes::new(read_octets(alloc, &mut fields)?);
-        let iterations = read_optional_count(alloc, &mut fields)?;
-        fields.end()?;
-        *reader = ahead;
-        Ok(MacData {
-            mac,
-            salt,
-            iterations,
-        })
+        read_record(alloc, reader)
     }
 
     ghost readable = { mac_data_lawful.readable };
 }
 
 impl DerWrite for MacData {
-    #[tactic(auto, unfolding(crate::specs::Mac::mac_data, picky_x509_algorithms::specs::Counts::count))]
+    #[tactic(auto, unfolding(crate::specs::Mac::mac_data))]
     fn write_der(&self, alloc: Global, out: &mut Vec<u8>) -> Result<(), DerError> {
-        let mut fields = Vec::new(alloc);
-        self.mac.write_der(alloc, &mut fields)?;
-        write_octets(self.salt.as_slice(), &mut fields)?;
-        write_optional(alloc, &self.iterations, &mut fields)?;
-        write_value(out, Tag::SEQUENCE, &fields)
+        write_record(alloc, self, out)
     }
 
     ghost writable = { mac_data_lawful.writable };

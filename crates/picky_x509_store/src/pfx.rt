@@ -1,19 +1,19 @@
 // Stores.
 ghost use Rattle.std.specs.Prelude.{◌≡◌, IfOk};
 ghost use Rattle.picky_der.specs.Reading.{Reads};
-ghost use Rattle.picky_fields.specs.Fields.{seen_at};
+ghost use Rattle.picky_fields.specs.Records.{fields_by};
 ghost use Rattle.picky_x509_store.specs.declared.pfx.RawPfx.{RawPfx as Store};
 ghost use Rattle.picky_x509_store.specs.declared.pfx.RawAuthenticatedSafe.{RawAuthenticatedSafe as Safe};
-ghost use Rattle.picky_x509_store.specs.Pfx.{safe_of, safe_cases, safe, safe_lawful, version, pfx, pfx_lawful};
+ghost use Rattle.picky_x509_store.specs.Pfx.{safe_fields, safe, safe_lawful, version, pfx_fields, pfx, pfx_lawful};
 
 use crate::mac::MacData;
 use picky_asn1_oid::ObjectIdentifier;
 use picky_asn1_tag::{Asn1Value, CopyIn, Tag};
 use picky_contract::Bytes;
-use picky_der::{Asn1RawDer, DerError, DerForm, DerRead, DerReader, DerWrite, write_value};
+use picky_der::{Asn1RawDer, DerError, DerForm, DerRead, DerReader, DerWrite};
 use picky_fields::{
-    read_explicit_octets, read_optional, read_optional_explicit, write_explicit_octets,
-    write_optional, write_optional_explicit,
+    DerRecord, copy_optional, read_explicit_octets, read_optional, read_optional_explicit,
+    read_record, write_explicit_octets, write_optional, write_optional_explicit, write_record,
 };
 use picky_x509_algorithms::KnownIdentifier;
 use std::alloc::{AllocError, Global};
@@ -32,17 +32,9 @@ pub enum RawAuthenticatedSafe {
     },
 }
 
-fn copy_raw(alloc: Global, raw: &Option<Asn1RawDer>) -> Result<Option<Asn1RawDer>, AllocError>
-    ensures { IfOk result (λ copy. copy ≡ raw.now) }
-{
-    match raw {
-        Some(raw) => Ok(Some(raw.clone(alloc)?)),
-        None => Ok(None),
-    }
-}
-
 impl RawAuthenticatedSafe {
     /// A copy, in memory of its own.
+    #[tactic(auto, using(picky_fields::specs::laws::Copies::copied_option))]
     pub fn clone(&self, alloc: Global) -> Result<RawAuthenticatedSafe, AllocError>
         ensures { IfOk result (λ copy. copy ≡ self.now) }
     {
@@ -55,7 +47,7 @@ impl RawAuthenticatedSafe {
                 content,
             } => Ok(RawAuthenticatedSafe::Unknown {
                 content_type: content_type.clone(alloc)?,
-                content: copy_raw(alloc, content)?,
+                content: copy_optional(alloc, content)?,
             }),
         }
     }
@@ -84,23 +76,42 @@ impl DerForm for RawAuthenticatedSafe {
     ghost same_value = { λ _ _ e. e };
 }
 
-#[tactic(auto, unfolding(crate::specs::Pfx::safe_cases))]
-fn read_content(
-    alloc: Global,
-    content_type: ObjectIdentifier,
-    reader: &mut DerReader<'_>,
-) -> Result<RawAuthenticatedSafe, DerError>
-    ensures { Reads (λ s. s) (seen_at safe_of (safe_cases.reading content_type)) reader.old result reader.new }
-{
-    if KnownIdentifier::Data.is(&content_type) {
-        let octets = Bytes::new(read_explicit_octets(alloc, 0, reader)?);
-        return Ok(RawAuthenticatedSafe::Data(octets));
+impl DerRecord for RawAuthenticatedSafe {
+    ghost fields = { fields_by (λ x. x) safe_fields };
+
+    #[tactic(auto, unfolding(crate::specs::Pfx::safe_fields, crate::specs::Pfx::safe_cases))]
+    fn read_fields(
+        alloc: Global,
+        reader: &mut DerReader<'_>,
+    ) -> Result<RawAuthenticatedSafe, DerError> {
+        let content_type = ObjectIdentifier::read_der(alloc, reader)?;
+        if KnownIdentifier::Data.is(&content_type) {
+            let octets = Bytes::new(read_explicit_octets(alloc, 0, reader)?);
+            return Ok(RawAuthenticatedSafe::Data(octets));
+        }
+        let content = read_optional_explicit(alloc, 0, reader)?;
+        Ok(RawAuthenticatedSafe::Unknown {
+            content_type,
+            content,
+        })
     }
-    let content = read_optional_explicit(alloc, 0, reader)?;
-    Ok(RawAuthenticatedSafe::Unknown {
-        content_type,
-        content,
-    })
+
+    #[tactic(auto, unfolding(crate::specs::Pfx::safe_fields, crate::specs::Pfx::safe_cases))]
+    fn write_fields(&self, alloc: Global, out: &mut Vec<u8>) -> Result<(), DerError> {
+        match self {
+            RawAuthenticatedSafe::Data(octets) => {
+                KnownIdentifier::Data.write(out)?;
+                write_explicit_octets(alloc, 0, octets.as_slice(), out)
+            }
+            RawAuthenticatedSafe::Unknown {
+                content_type,
+                content,
+            } => {
+                content_type.write_der(alloc, out)?;
+                write_optional_explicit(alloc, 0, content, out)
+            }
+        }
+    }
 }
 
 impl DerRead for RawAuthenticatedSafe {
@@ -109,42 +120,21 @@ impl DerRead for RawAuthenticatedSafe {
         tag == Tag::SEQUENCE
     }
 
-    #[tactic(auto, unfolding(crate::specs::Pfx::safe, picky_fields::specs::Fields::enclosed_at, picky_fields::specs::Fields::run_at))]
+    #[tactic(auto, unfolding(crate::specs::Pfx::safe))]
     fn read_der(
         alloc: Global,
         reader: &mut DerReader<'_>,
     ) -> Result<RawAuthenticatedSafe, DerError> {
-        let mut ahead = reader.fork();
-        let mut fields = ahead.nested(Tag::SEQUENCE)?;
-        let content_type = ObjectIdentifier::read_der(alloc, &mut fields)?;
-        let safe = read_content(alloc, content_type, &mut fields)?;
-        fields.end()?;
-        *reader = ahead;
-        Ok(safe)
+        read_record(alloc, reader)
     }
 
     ghost readable = { safe_lawful.readable };
 }
 
 impl DerWrite for RawAuthenticatedSafe {
-    #[tactic(auto, unfolding(crate::specs::Pfx::safe, crate::specs::Pfx::safe_cases))]
+    #[tactic(auto, unfolding(crate::specs::Pfx::safe))]
     fn write_der(&self, alloc: Global, out: &mut Vec<u8>) -> Result<(), DerError> {
-        let mut fields = Vec::new(alloc);
-        match self {
-            RawAuthenticatedSafe::Data(octets) => {
-                KnownIdentifier::Data.write(&mut fields)?;
-                write_explicit_octets(alloc, 0, octets.as_slice(), &mut fields)?;
-                write_value(out, Tag::SEQUENCE, &fields)
-            }
-            RawAuthenticatedSafe::Unknown {
-                content_type,
-                content,
-            } => {
-                content_type.write_der(alloc, &mut fields)?;
-                write_optional_explicit(alloc, 0, content, &mut fields)?;
-                write_value(out, Tag::SEQUENCE, &fields)
-            }
-        }
+        write_record(alloc, self, out)
     }
 
     ghost writable = { safe_lawful.writable };
@@ -161,25 +151,24 @@ pub struct RawPfx {
     pub mac_data: Option<MacData>,
 }
 
-fn copy_mac(alloc: Global, mac: &Option<MacData>) -> Result<Option<MacData>, AllocError>
-    ensures { IfOk result (λ copy. copy ≡ mac.now) }
-{
-    match mac {
-        Some(mac) => Ok(Some(mac.clone(alloc)?)),
-        None => Ok(None),
-    }
-}
-
 impl RawPfx {
     /// A copy, in memory of its own.
+    #[tactic(auto, using(picky_fields::specs::laws::Copies::copied_option))]
     pub fn clone(&self, alloc: Global) -> Result<RawPfx, AllocError>
         ensures { IfOk result (λ copy. copy ≡ self.now) }
     {
-        Ok(RawPfx {
-            version: self.version,
-            auth_safe: self.auth_safe.clone(alloc)?,
-            mac_data: copy_mac(alloc, &self.mac_data)?,
-        })
+        let auth_safe = self.auth_safe.clone(alloc)?;
+        match copy_optional(alloc, &self.mac_data) {
+            Ok(mac_data) => Ok(RawPfx {
+                version: self.version,
+                auth_safe,
+                mac_data,
+            }),
+            Err(fault) => {
+                drop(auth_safe);
+                Err(fault)
+            }
+        }
     }
 }
 
@@ -213,39 +202,52 @@ fn read_version(alloc: Global, reader: &mut DerReader<'_>) -> Result<u8, DerErro
     u8::read_der(alloc, reader)
 }
 
+impl DerRecord for RawPfx {
+    ghost fields = { fields_by (λ x. x) pfx_fields };
+
+    #[tactic(auto, unfolding(crate::specs::Pfx::pfx_fields))]
+    fn read_fields(alloc: Global, reader: &mut DerReader<'_>) -> Result<RawPfx, DerError> {
+        let version = read_version(alloc, reader)?;
+        let auth_safe = RawAuthenticatedSafe::read_der(alloc, reader)?;
+        match read_optional(alloc, reader) {
+            Ok(mac_data) => Ok(RawPfx {
+                version,
+                auth_safe,
+                mac_data,
+            }),
+            Err(fault) => {
+                drop(auth_safe);
+                Err(fault)
+            }
+        }
+    }
+
+    #[tactic(auto, unfolding(crate::specs::Pfx::pfx_fields, crate::specs::Pfx::version))]
+    fn write_fields(&self, alloc: Global, out: &mut Vec<u8>) -> Result<(), DerError> {
+        self.version.write_der(alloc, out)?;
+        self.auth_safe.write_der(alloc, out)?;
+        write_optional(alloc, &self.mac_data, out)
+    }
+}
+
 impl DerRead for RawPfx {
     #[tactic(auto, unfolding(crate::specs::Pfx::pfx))]
     fn begins_with(tag: Tag) -> bool {
         tag == Tag::SEQUENCE
     }
 
-    #[tactic(auto, unfolding(crate::specs::Pfx::pfx, picky_fields::specs::Fields::enclosed_at, picky_fields::specs::Fields::run_at))]
+    #[tactic(auto, unfolding(crate::specs::Pfx::pfx))]
     fn read_der(alloc: Global, reader: &mut DerReader<'_>) -> Result<RawPfx, DerError> {
-        let mut ahead = reader.fork();
-        let mut fields = ahead.nested(Tag::SEQUENCE)?;
-        let version = read_version(alloc, &mut fields)?;
-        let auth_safe = RawAuthenticatedSafe::read_der(alloc, &mut fields)?;
-        let mac_data = read_optional(alloc, &mut fields)?;
-        fields.end()?;
-        *reader = ahead;
-        Ok(RawPfx {
-            version,
-            auth_safe,
-            mac_data,
-        })
+        read_record(alloc, reader)
     }
 
     ghost readable = { pfx_lawful.readable };
 }
 
 impl DerWrite for RawPfx {
-    #[tactic(auto, unfolding(crate::specs::Pfx::pfx, crate::specs::Pfx::version))]
+    #[tactic(auto, unfolding(crate::specs::Pfx::pfx))]
     fn write_der(&self, alloc: Global, out: &mut Vec<u8>) -> Result<(), DerError> {
-        let mut fields = Vec::new(alloc);
-        self.version.write_der(alloc, &mut fields)?;
-        self.auth_safe.write_der(alloc, &mut fields)?;
-        write_optional(alloc, &self.mac_data, &mut fields)?;
-        write_value(out, Tag::SEQUENCE, &fields)
+        write_record(alloc, self, out)
     }
 
     ghost writable = { pfx_lawful.writable };

@@ -25,7 +25,7 @@ use Rattle.picky_x509_algorithms.specs.Identifiers.{arcs, is_known}
 use Rattle.picky_x509_algorithms.specs.laws.Identifiers.{tells}
 use Rattle.picky_x509_bags.specs.declared.attribute.Pkcs12Attribute.{Pkcs12Attribute}
 use Rattle.picky_x509_bags.specs.declared.attribute.Pkcs12Attribute.TheVariants.{FriendlyName, LocalKeyId, Unknown}
-use Rattle.picky_x509_bags.specs.Attribute.{AttributeValue, contents_in, single, if_bmp, name_in, octets_in, or_unknown, attribute_of, attribute_parts, values, attribute, attributes}
+use Rattle.picky_x509_bags.specs.Attribute.{AttributeValue, contents_in, single, if_bmp, name_in, octets_in, or_unknown, attribute_of, attribute_parts, values, attribute_fields, attribute, attributes}
 
 -- ---- the one value of a set
 
@@ -105,7 +105,7 @@ unfolding values
 values_lawful = record { readable = list_readable raw_form raw_readable (record { 0 = 49 }); writable = list_writable raw_form raw_writable (record { 0 = 49 }) (λ h. absurd (omega arith)) }
 
 pub attribute_lawful : Lawful attribute
-unfolding attribute
+unfolding attribute attribute_fields
 attribute_lawful = sequence_lawful (seen_again_lawful (sees_as_written {to = attribute_of} {from = attribute_parts} written_as_read) (and_lawful (λ _ _. refl) (one_lawful identifier_lawful) (one_lawful values_lawful)))
 
 pub attributes_lawful : Lawful attributes
@@ -123,7 +123,7 @@ one_value : (tag : Tag) (c : List ℕ) → tag.0 % 32 ≢ 31 → length c < 2 ^ 
 one_value tag c one_byte fits = record { tag = tag; contents = c; value = record { one_byte = one_byte; fits = fits; bytes_are = refl } }
 
 pub name_formed : (name : List ℕ) → IsBmp name → length name < 2 ^ 64 → attribute.in_form (FriendlyName name)
-unfolding attribute values attribute_of
+unfolding attribute attribute_fields values attribute_of
 name_formed name bmp fits =
     let tag : Tag = record { 0 = 30 } in (
       ((tells known.FriendlyName).formed, (one_value tag name (omega arith) fits, tt)),
@@ -135,7 +135,7 @@ unfolding is_known arcs base128 continued
 id_is_no_name = refl
 
 pub id_formed : (id : List ℕ) → length id < 2 ^ 64 → attribute.in_form (LocalKeyId id)
-unfolding attribute values attribute_of
+unfolding attribute attribute_fields values attribute_of
 id_formed id fits =
     let tag : Tag = record { 0 = 4 } in (
       ((tells known.LocalKeyId).formed, (one_value tag id (omega arith) fits, tt)),
