@@ -1,8 +1,8 @@
 #!/usr/bin/env python3
-"""Prints the rows of `http` and `request` of `token_rows`: header texts, request heads, signing strings, and what requests answer.
+"""Prints the rows of `http` and `request` of `sign_rows`: header texts, request heads, signing strings, and what requests answer.
 
 Each is made from the rules that docs/DEFINITIONS.md maps, by splitting and joining Python's own texts; paths of targets are
-those of `urllib.parse`. The rows stand in crates/token_rows/stdout.
+those of `urllib.parse`. The rows stand at the end of crates/sign_rows/stdout.
 """
 import base64
 import re

@@ -1,8 +1,8 @@
 #!/usr/bin/env python3
 """Rows over bags of PKCS #12 and bags in bags.
 
-    scripts/safe_bag_rows.py rows              prints the rows, for crates/store_rows/stdout
-    scripts/safe_bag_rows.py check PROGRAM     compares what PROGRAM (store_rows, built) answers over some 30 stores, and over bags
+    scripts/safe_bag_rows.py rows              prints the rows, for crates/asn1_rows/stdout
+    scripts/safe_bag_rows.py check PROGRAM     compares what PROGRAM (asn1_rows, built) answers over some 30 stores, and over bags
                                                nested at random, cut, and with a byte in a place of theirs changed
 
 The bags of a row are encodings by python's `pyasn1`; how deep they are is how they were made. The bags and parts of stores are made

@@ -1,5 +1,5 @@
 #!/usr/bin/env python3
-"""Prints the rows of crates/sign_rows: signed tokens and HTTP signatures that are made, what is refused, and header texts that are printed.
+"""Prints the rows of crates/sign_rows over signed tokens and HTTP signatures that are made, what is refused, and header texts that are printed.
 
 Keys are made for this run and thrown away, test keys that protect nothing; signatures are made by python's `cryptography`, over the messages
 that are put together here:
@@ -10,7 +10,7 @@ that are put together here:
   scripts/http_cases.py.
 - refusals: the first rule that the row breaks.
 
-Usage: scripts/sign_rows.py                          prints the rows; each stands in crates/sign_rows/stdout
+Usage: scripts/sign_rows.py                          prints the rows; each stands in crates/sign_rows/stdout, before those of scripts/http_cases.py
        scripts/sign_rows.py check [PROGRAM [GATE]]   what others say of tokens that are made here, and the other way about
 
 `check`, under fresh RSA, P-256 and Ed25519 keys: tokens that PROGRAM makes (crates/sign_rows/out/sign_rows), of signatures by real arithmetic,

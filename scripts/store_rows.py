@@ -1,8 +1,8 @@
 #!/usr/bin/env python3
 """Rows over real stores of PKCS #12, made by openssl and, where it is installed, keytool.
 
-    scripts/store_rows.py rows              prints rows of a dozen stores, for crates/store_rows/stdout
-    scripts/store_rows.py check PROGRAM     makes some 30 stores, and compares what PROGRAM (store_rows, built) answers
+    scripts/store_rows.py rows              prints rows of a dozen stores, for crates/asn1_rows/stdout
+    scripts/store_rows.py check PROGRAM     makes some 30 stores, and compares what PROGRAM (asn1_rows, built) answers
 
 The containers in a store are cut out at the places that `openssl asn1parse` lists, and their variants are named by the identifiers
 that it prints there. `check` reads each container and writes it back to the same bytes, and damages each store at 200 places: every

@@ -4,20 +4,18 @@
 //     derived.password HASH PASSWORD SALT ITERATIONS BLOCK     a key of 32 bytes by PBKDF2
 //     derived.agreed ALGORITHM SECRET APU APV BLOCK            a key of 24 bytes by the Concat KDF
 //     derived.wrapped KEY WRAPPED BLOCK                        a key of 16 bytes by key wrap, or `refused`
-use crate::given::{aes, agreement_of, block, password_of};
-use crate::kdf::iterations;
-use anyhow::{Context, Result, bail};
-use hex::FromHex;
+use crate::given::{Agreement, Password, aes, agreement_of, array, block, password_of};
+use anyhow::Result;
 use picky_cipher::{Aes, concat_kdf, key_unwrap, pbkdf2};
-use rows::{Answer, Words};
-use std::alloc::Global;
+use rows::{Answer, Words, refused};
+use std::alloc::{AllocError, Global};
 
 pub(crate) fn answer(alloc: Global, call: &str, words: &mut Words<'_>) -> Result<Answer> {
     match call {
         "password" => under_password(alloc, words),
         "agreed" => under_agreed(alloc, words),
         "wrapped" => under_wrapped(alloc, words),
-        _ => bail!("no such call"),
+        _ => refused("no such call"),
     }
 }
 
@@ -26,11 +24,10 @@ fn encrypted(alloc: Global, aes: &Aes, mut block: [u8; 16]) -> Result<Answer> {
     Answer::bytes(alloc, &block)
 }
 
-fn under_password(alloc: Global, words: &mut Words<'_>) -> Result<Answer> {
-    let password = password_of(alloc, words)?;
-    let iterations = iterations(words)?;
+// The cipher under a key by PBKDF2.
+fn password_cipher(alloc: Global, password: &Password, iterations: u32) -> Result<Aes> {
     if iterations == 0 {
-        bail!("no iterations");
+        return refused("no iterations");
     }
     let key = pbkdf2(
         alloc,
@@ -40,29 +37,49 @@ fn under_password(alloc: Global, words: &mut Words<'_>) -> Result<Answer> {
         iterations,
         32,
     )?;
-    encrypted(alloc, &Aes::new(&key), block(words)?)
+    Ok(Aes::new(&key))
 }
 
-fn under_agreed(alloc: Global, words: &mut Words<'_>) -> Result<Answer> {
-    let algorithm = words.text(alloc)?;
-    let agreed = agreement_of(alloc, words)?;
+fn under_password(alloc: Global, words: &mut Words<'_>) -> Result<Answer> {
+    let password = password_of(alloc, words)?;
+    let aes = password_cipher(alloc, &password, words.parsed()?)?;
+    encrypted(alloc, &aes, block(words)?)
+}
+
+// The cipher under a key by the Concat KDF.
+fn agreed_cipher(alloc: Global, algorithm: &str, agreed: &Agreement) -> Result<Aes, AllocError> {
     let key = concat_kdf(
         alloc,
-        &algorithm,
+        algorithm,
         24,
         &agreed.secret,
         &agreed.apu,
         &agreed.apv,
     )?;
-    encrypted(alloc, &Aes::new(&key), block(words)?)
+    Ok(Aes::new(&key))
+}
+
+fn under_agreed(alloc: Global, words: &mut Words<'_>) -> Result<Answer> {
+    let algorithm = words.text(alloc)?;
+    let agreed = agreement_of(alloc, words)?;
+    let aes = agreed_cipher(alloc, &algorithm, &agreed)?;
+    encrypted(alloc, &aes, block(words)?)
+}
+
+// The cipher under a key that is unwrapped.
+fn wrapped_cipher(alloc: Global, aes: &Aes, wrapped: &[u8; 24]) -> Result<Option<Aes>, AllocError> {
+    match key_unwrap(alloc, aes, wrapped)? {
+        Some(key) => Ok(Some(Aes::new(&key))),
+        None => Ok(None),
+    }
 }
 
 fn under_wrapped(alloc: Global, words: &mut Words<'_>) -> Result<Answer> {
     let aes = aes(alloc, words)?;
-    let wrapped = <[u8; 24] as FromHex>::from_hex(words.next()).context("24 bytes are missing")?;
+    let wrapped = array(words)?;
     let block = block(words)?;
-    match key_unwrap(alloc, &aes, &wrapped)? {
-        Some(key) => encrypted(alloc, &Aes::new(&key), block),
+    match wrapped_cipher(alloc, &aes, &wrapped)? {
+        Some(aes) => encrypted(alloc, &aes, block),
         None => Ok(Answer::Word("refused")),
     }
 }

@@ -1,8 +1,8 @@
 // What several calls are given: a key's cipher, blocks, nonces, bytes that are counted out, and passwords with their hash.
-use anyhow::{Context, Result, bail};
+use anyhow::Result;
 use hex::FromHex;
 use picky_cipher::{Aes, Pkcs12HashAlgorithm};
-use rows::Words;
+use rows::{Words, present, refused};
 use std::alloc::{AllocError, Global};
 
 // The cipher under a key.
@@ -10,16 +10,20 @@ pub(crate) fn aes(alloc: Global, words: &mut Words<'_>) -> Result<Aes> {
     let key = words.bytes(alloc)?;
     match key.len() {
         16 | 24 | 32 => Ok(Aes::new(&key)),
-        _ => bail!("a key of 16, 24 or 32 bytes is missing"),
+        _ => refused("a key of 16, 24 or 32 bytes is missing"),
     }
 }
 
-pub(crate) fn block(words: &mut Words<'_>) -> Result<[u8; 16]> {
-    <[u8; 16] as FromHex>::from_hex(words.next()).context("a block of 16 bytes is missing")
+// So many bytes of the next word.
+pub(crate) fn array<const N: usize>(words: &mut Words<'_>) -> Result<[u8; N]> {
+    present(
+        <[u8; N] as FromHex>::from_hex(words.next()).ok(),
+        "a word of another number of bytes",
+    )
 }
 
-pub(crate) fn nonce(words: &mut Words<'_>) -> Result<[u8; 12]> {
-    <[u8; 12] as FromHex>::from_hex(words.next()).context("a nonce of 12 bytes is missing")
+pub(crate) fn block(words: &mut Words<'_>) -> Result<[u8; 16]> {
+    array(words)
 }
 
 // So many bytes counted out: byte `j` is `j % 251`.
@@ -38,7 +42,7 @@ pub(crate) fn hash(words: &mut Words<'_>) -> Result<Pkcs12HashAlgorithm> {
         "sha256" => Ok(Pkcs12HashAlgorithm::Sha256),
         "sha384" => Ok(Pkcs12HashAlgorithm::Sha384),
         "sha512" => Ok(Pkcs12HashAlgorithm::Sha512),
-        _ => bail!("no such hash"),
+        _ => refused("no such hash"),
     }
 }
 

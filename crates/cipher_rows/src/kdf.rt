@@ -4,11 +4,11 @@
 //     kdf.pbkdf2 HASH PASSWORD SALT ITERATIONS SIZE
 //     kdf.pbkdf1 HASH PASSWORD SALT ITERATIONS USE SIZE
 //     kdf.concat ALGORITHM SIZE SECRET APU APV       the algorithm's name by its bytes
-use crate::given::{agreement_of, hash, password_of};
-use anyhow::{Context, Result, bail};
-use picky_cipher::{Pbkdf1Usage, concat_kdf, hmac, pbkdf1, pbkdf2};
-use rows::{Answer, Words};
-use std::alloc::Global;
+use crate::given::{Agreement, Password, agreement_of, hash, password_of};
+use anyhow::Result;
+use picky_cipher::{Pbkdf1Usage, Pkcs12HashAlgorithm, concat_kdf, hmac, pbkdf1, pbkdf2};
+use rows::{Answer, Words, refused};
+use std::alloc::{AllocError, Global};
 
 const MOST_SIZE: usize = 1024;
 
@@ -18,39 +18,51 @@ pub(crate) fn answer(alloc: Global, call: &str, words: &mut Words<'_>) -> Result
         "pbkdf2" => password_key(alloc, words),
         "pbkdf1" => store_key(alloc, words),
         "concat" => agreed_key(alloc, words),
-        _ => bail!("no such call"),
+        _ => refused("no such call"),
     }
+}
+
+fn code(
+    alloc: Global,
+    hash: Pkcs12HashAlgorithm,
+    key: &[u8],
+    text: &[u8],
+) -> Result<Vec<u8>, AllocError> {
+    hmac(alloc, hash, key, text)
 }
 
 fn mac(alloc: Global, words: &mut Words<'_>) -> Result<Answer> {
     let hash = hash(words)?;
     let key = words.bytes(alloc)?;
     let text = words.bytes(alloc)?;
-    Answer::bytes(alloc, &hmac(alloc, hash, &key, &text)?)
+    Answer::bytes(alloc, &code(alloc, hash, &key, &text)?)
 }
 
-pub(crate) fn iterations(words: &mut Words<'_>) -> Result<u32> {
-    u32::try_from(words.size()?)
-        .ok()
-        .context("too many iterations")
-}
-
-fn password_key(alloc: Global, words: &mut Words<'_>) -> Result<Answer> {
-    let password = password_of(alloc, words)?;
-    let iterations = iterations(words)?;
-    let size = words.size()?;
+// The key of a password by PBKDF2, where there are iterations and not too many bytes.
+fn key_of_password(
+    alloc: Global,
+    password: &Password,
+    iterations: u32,
+    size: usize,
+) -> Result<Vec<u8>> {
     if iterations == 0 || size > MOST_SIZE {
-        bail!("no iterations, or too many bytes");
+        return refused("no iterations, or too many bytes");
     }
-    let key = pbkdf2(
+    Ok(pbkdf2(
         alloc,
         password.hash,
         &password.text,
         &password.salt,
         iterations,
         size,
-    )?;
-    Answer::bytes(alloc, &key)
+    )?)
+}
+
+fn password_key(alloc: Global, words: &mut Words<'_>) -> Result<Answer> {
+    let password = password_of(alloc, words)?;
+    let iterations = words.parsed()?;
+    let size = words.size()?;
+    Answer::bytes(alloc, &key_of_password(alloc, &password, iterations, size)?)
 }
 
 fn usage(words: &mut Words<'_>) -> Result<Pbkdf1Usage> {
@@ -58,19 +70,22 @@ fn usage(words: &mut Words<'_>) -> Result<Pbkdf1Usage> {
         "key" => Ok(Pbkdf1Usage::Key),
         "iv" => Ok(Pbkdf1Usage::Iv),
         "mac" => Ok(Pbkdf1Usage::Mac),
-        _ => bail!("no such use"),
+        _ => refused("no such use"),
     }
 }
 
-fn store_key(alloc: Global, words: &mut Words<'_>) -> Result<Answer> {
-    let password = password_of(alloc, words)?;
-    let iterations = words.size()?;
-    let usage = usage(words)?;
-    let size = words.size()?;
+// The key of a password by PBKDF1, where there are iterations and not too many bytes.
+fn key_of_store(
+    alloc: Global,
+    password: &Password,
+    iterations: usize,
+    usage: Pbkdf1Usage,
+    size: usize,
+) -> Result<Vec<u8>> {
     if iterations == 0 || size > MOST_SIZE {
-        bail!("no iterations, or too many bytes");
+        return refused("no iterations, or too many bytes");
     }
-    let key = pbkdf1(
+    Ok(pbkdf1(
         alloc,
         password.hash,
         &password.text,
@@ -78,24 +93,43 @@ fn store_key(alloc: Global, words: &mut Words<'_>) -> Result<Answer> {
         iterations,
         usage,
         size,
-    )?;
-    Answer::bytes(alloc, &key)
+    )?)
+}
+
+fn store_key(alloc: Global, words: &mut Words<'_>) -> Result<Answer> {
+    let password = password_of(alloc, words)?;
+    let iterations = words.size()?;
+    let usage = usage(words)?;
+    let size = words.size()?;
+    Answer::bytes(
+        alloc,
+        &key_of_store(alloc, &password, iterations, usage, size)?,
+    )
+}
+
+// The key that is agreed on, where it has some bytes and not too many.
+fn key_of_agreement(
+    alloc: Global,
+    algorithm: &str,
+    size: usize,
+    agreed: &Agreement,
+) -> Result<Vec<u8>> {
+    if size == 0 || size > 64 {
+        return refused("a key of no or of too many bytes");
+    }
+    Ok(concat_kdf(
+        alloc,
+        algorithm,
+        size,
+        &agreed.secret,
+        &agreed.apu,
+        &agreed.apv,
+    )?)
 }
 
 fn agreed_key(alloc: Global, words: &mut Words<'_>) -> Result<Answer> {
     let algorithm = words.text(alloc)?;
     let size = words.size()?;
     let agreed = agreement_of(alloc, words)?;
-    if size == 0 || size > 64 {
-        bail!("a key of no or of too many bytes");
-    }
-    let key = concat_kdf(
-        alloc,
-        &algorithm,
-        size,
-        &agreed.secret,
-        &agreed.apu,
-        &agreed.apv,
-    )?;
-    Answer::bytes(alloc, &key)
+    Answer::bytes(alloc, &key_of_agreement(alloc, &algorithm, size, &agreed)?)
 }

@@ -12,8 +12,8 @@ mod pbes1;
 mod slow;
 mod wrap;
 
-use anyhow::{Result, bail};
-use rows::{Answer, Calls, Words, answer_rows};
+use anyhow::Result;
+use rows::{Answer, Calls, Words, answer_rows, refused};
 use std::alloc::Global;
 use std::process::ExitCode;
 
@@ -29,7 +29,7 @@ impl Calls for Ciphers {
             "pbes1" => pbes1::answer(alloc, call, words),
             "kdf" => kdf::answer(alloc, call, words),
             "derived" => derived::answer(alloc, call, words),
-            _ => bail!("no such notion"),
+            _ => refused("no such notion"),
         }
     }
 }

@@ -8,10 +8,11 @@ ghost use Rattle.std.specs.Prelude.{◌≡◌, ◌<◌, ◌↔◌, length, IsTru
 ghost use Rattle.picky_modes.specs.Pbes1.{key_size};
 ghost use Rattle.cipher_rows.specs.Added.{added};
 
-use anyhow::{Context, Result, bail};
-use hex::FromHex;
+use crate::cbc::decrypted;
+use crate::given::array;
+use anyhow::Result;
 use picky_cipher::{NoPbes1, Pbes1Blocks, Pbes1Kind, pbes1_cbc_decrypt, pbes1_cbc_encrypt};
-use rows::{Answer, Words};
+use rows::{Answer, Words, refused};
 use std::alloc::Global;
 
 // The cipher that adds its key to a block, over and over.
@@ -52,7 +53,7 @@ pub(crate) fn answer(alloc: Global, call: &str, words: &mut Words<'_>) -> Result
         "decrypt" => decrypt(alloc, words, false),
         "left" => decrypt(alloc, words, true),
         "none_serves" => Ok(Answer::Truth(NoPbes1.serves(cipher(words)?))),
-        _ => bail!("no such call"),
+        _ => refused("no such call"),
     }
 }
 
@@ -60,12 +61,8 @@ fn cipher(words: &mut Words<'_>) -> Result<Pbes1Kind> {
     match words.next() {
         "rc2" => Ok(Pbes1Kind::Rc2),
         "tdes" => Ok(Pbes1Kind::Tdes),
-        _ => bail!("no such cipher"),
+        _ => refused("no such cipher"),
     }
-}
-
-fn block(words: &mut Words<'_>) -> Result<[u8; 8]> {
-    <[u8; 8] as FromHex>::from_hex(words.next()).context("a block of 8 bytes is missing")
 }
 
 // Whether a key has the cipher's size.
@@ -78,32 +75,41 @@ fn fits(cipher: Pbes1Kind, key: &[u8]) -> bool
     }
 }
 
+// The sealed text, where the key is the cipher's.
+fn sealed(
+    alloc: Global,
+    cipher: Pbes1Kind,
+    key: &[u8],
+    iv: &[u8; 8],
+    text: &[u8],
+) -> Result<Vec<u8>> {
+    if !fits(cipher, key) {
+        return refused("no key of this cipher");
+    }
+    Ok(pbes1_cbc_encrypt(alloc, &Adding, cipher, key, iv, text)?)
+}
+
 fn encrypt(alloc: Global, words: &mut Words<'_>) -> Result<Answer> {
     let cipher = cipher(words)?;
     let key = words.bytes(alloc)?;
-    let iv = block(words)?;
+    let iv = array(words)?;
     let text = words.bytes(alloc)?;
-    if !fits(cipher, &key) {
-        bail!("no key of this cipher");
+    Answer::bytes(alloc, &sealed(alloc, cipher, &key, &iv, &text)?)
+}
+
+// Decrypts in place and gives the size of the text, where the key is the cipher's.
+fn opened(cipher: Pbes1Kind, key: &[u8], iv: &[u8; 8], buffer: &mut [u8]) -> Result<Option<usize>> {
+    if !fits(cipher, key) {
+        return refused("no key of this cipher");
     }
-    let sealed = pbes1_cbc_encrypt(alloc, &Adding, cipher, &key, &iv, &text)?;
-    Answer::bytes(alloc, &sealed)
+    Ok(pbes1_cbc_decrypt(&Adding, cipher, key, iv, buffer))
 }
 
 fn decrypt(alloc: Global, words: &mut Words<'_>, left: bool) -> Result<Answer> {
     let cipher = cipher(words)?;
     let key = words.bytes(alloc)?;
-    let iv = block(words)?;
+    let iv = array(words)?;
     let mut buffer = words.bytes(alloc)?;
-    if !fits(cipher, &key) {
-        bail!("no key of this cipher");
-    }
-    let size = pbes1_cbc_decrypt(&Adding, cipher, &key, &iv, buffer.as_mut_slice());
-    if left {
-        return Answer::bytes(alloc, &buffer);
-    }
-    match size {
-        Some(size) => Answer::bytes(alloc, &buffer[..size]),
-        None => Ok(Answer::Word("refused")),
-    }
+    let size = opened(cipher, &key, &iv, buffer.as_mut_slice())?;
+    decrypted(alloc, &buffer, size, left)
 }

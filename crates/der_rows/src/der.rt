@@ -20,6 +20,7 @@ mod faults;
 mod fields;
 mod long;
 mod made;
+mod plain;
 mod records;
 mod simple;
 mod ten;
@@ -28,43 +29,30 @@ mod types;
 mod values;
 mod wrapped;
 
-use anyhow::{Result, bail};
-use rows::{Answer, Words};
+use anyhow::Result;
+use rows::{Answer, Calls, Words};
 use std::alloc::Global;
 
-/// What a call of one of these notions gives.
-pub fn answer(alloc: Global, notion: &str, call: &str, words: &mut Words<'_>) -> Result<Answer> {
-    match notion {
-        "der" => values::answer(alloc, call, words),
-        "der_default" => defaults::answer(alloc, call, words),
-        "der_type" => types::answer(call, words),
-        "der_fault" => faults::answer(alloc, call, words),
-        "der_long" => long::answer(alloc, call, words),
-        "der_record" => records::answer(alloc, call, words),
-        "der_ten" => ten::answer(alloc, call, words),
-        _ => answer_of_made(alloc, notion, call, words),
-    }
-}
+/// The calls of these notions.
+pub struct DerCalls;
 
-fn answer_of_made(
-    alloc: Global,
-    notion: &str,
-    call: &str,
-    words: &mut Words<'_>,
-) -> Result<Answer> {
-    match notion {
-        "der_number" => fields::number(alloc, call, words),
-        "der_fields" => fields::three(alloc, call, words),
-        "der_text" => fields::text(alloc, call, words),
-        "der_string" => simple::string(alloc, call, words),
-        "der_bits" => simple::bits(alloc, call, words),
-        "der_oid" => simple::identifier(alloc, call, words),
-        "der_time" => times::answer(alloc, call, words),
-        "der_integer" => made::integer(alloc, call, words),
-        "der_raw" => made::raw(alloc, call, words),
-        "der_algorithm" => made::algorithm(alloc, call, words),
-        "der_list" => wrapped::list(alloc, call, words),
-        "der_tagged" => wrapped::tagged(alloc, call, words),
-        _ => bail!("no such notion"),
+impl Calls for DerCalls {
+    fn answer(alloc: Global, notion: &str, call: &str, words: &mut Words<'_>) -> Result<Answer> {
+        match notion {
+            "der" | "der_default" | "der_type" => values::answer(alloc, call, words),
+            "der_number" | "der_text" => fields::plain(alloc, call, words),
+            "der_fault" => faults::answer(alloc, call, words),
+            "der_long" => long::answer(alloc, call, words),
+            "der_record" => records::answer(alloc, call, words),
+            "der_ten" => ten::answer(alloc, call, words),
+            "der_fields" => fields::three(alloc, call, words),
+            "der_string" => simple::string(alloc, call, words),
+            "der_bits" => simple::bits(alloc, call, words),
+            "der_oid" => simple::identifier(alloc, call, words),
+            "der_time" => times::answer(alloc, call, words),
+            "der_list" => wrapped::list(alloc, call, words),
+            "der_tagged" => wrapped::tagged(alloc, call, words),
+            _ => made::answer(alloc, notion, call, words),
+        }
     }
 }

@@ -4,17 +4,9 @@
 mod der;
 
 use anyhow::Result;
-use rows::{Answer, Calls, Words, answer_rows};
-use std::alloc::Global;
+use der::DerCalls;
+use rows::answer_rows;
 use std::process::ExitCode;
-
-struct DerCalls;
-
-impl Calls for DerCalls {
-    fn answer(alloc: Global, notion: &str, call: &str, words: &mut Words<'_>) -> Result<Answer> {
-        der::answer(alloc, notion, call, words)
-    }
-}
 
 fn main(rt: HostRuntime) -> Result<ExitCode> {
     answer_rows::<DerCalls>(&rt)

@@ -5,9 +5,10 @@
 //     file.run WORDS              STATUS TEXT of the program over these files, with room for 100 bytes in memory
 use crate::outcomes::{program_words, status_and_text};
 use anyhow::{Result, bail};
-use picky_gate::{Cabinet, FetchFault, FileCabinet, MemorySink, run};
+use picky_gate::{Cabinet, FetchFault, FileCabinet};
 use rows::{Answer, Words};
 use sha2::{Digest, Sha256};
+use std::alloc::Global;
 
 pub(crate) fn answer(rt: &HostRuntime, call: &str, words: &mut Words<'_>) -> Result<Answer> {
     match call {
@@ -26,29 +27,26 @@ fn fetched(rt: &HostRuntime, words: &mut Words<'_>) -> Result<Result<Vec<u8>, Fe
 }
 
 fn fetch(rt: &HostRuntime, words: &mut Words<'_>) -> Result<Answer> {
-    match fetched(rt, words)? {
-        Ok(bytes) => Answer::bytes(rt.alloc(), &bytes),
-        Err(fault) => Answer::debug(rt.alloc(), &fault),
+    match &fetched(rt, words)? {
+        Ok(bytes) => Answer::bytes(rt.alloc(), bytes),
+        Err(fault) => Answer::debug(rt.alloc(), fault),
     }
 }
 
+fn size_and_digest(alloc: Global, bytes: &[u8]) -> Result<Answer> {
+    let digest = Answer::bytes(alloc, &Sha256::digest(bytes))?;
+    Answer::pair(alloc, Answer::Size(bytes.len()), digest)
+}
+
 fn digest(rt: &HostRuntime, words: &mut Words<'_>) -> Result<Answer> {
-    let alloc = rt.alloc();
-    match fetched(rt, words)? {
-        Ok(bytes) => {
-            let size = bytes.len();
-            let digest = Answer::bytes(alloc, &Sha256::digest(bytes.as_slice()))?;
-            Ok(Answer::Text(format!(in alloc; "{size} {digest}")?))
-        }
-        Err(fault) => Answer::debug(alloc, &fault),
+    match &fetched(rt, words)? {
+        Ok(bytes) => size_and_digest(rt.alloc(), bytes),
+        Err(fault) => Answer::debug(rt.alloc(), fault),
     }
 }
 
 fn run_over_files(rt: &HostRuntime, words: &mut Words<'_>) -> Result<Answer> {
-    let alloc = rt.alloc();
-    let words = program_words(alloc, words)?;
+    let words = program_words(rt.alloc(), words)?;
     let mut cabinet = FileCabinet::new(rt);
-    let mut out = MemorySink::new(alloc, 100)?;
-    let status = run(alloc, &words, &mut cabinet, &mut out);
-    status_and_text(alloc, status.code, &out)
+    status_and_text(rt.alloc(), &words, &mut cabinet, 100)
 }

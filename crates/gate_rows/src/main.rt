@@ -1,10 +1,14 @@
-//! Answers rows that name the calls of the gate: the program over documents and outputs in memory, and over files.
+//! Answers rows that name the calls of the gate: the program over documents and outputs in memory, and over files; and how long the
+//! steps of admitting a token take.
 #![tactic(auto)]
 
+mod admission;
 mod files;
 mod generated;
 mod outcomes;
 mod runs;
+mod speed;
+mod timing;
 
 use anyhow::{Result, bail};
 use rows::{Answer, HostCalls, Words, answer_host_rows};
@@ -18,6 +22,7 @@ impl HostCalls for Gate {
             "gate" => runs::answer(rt, call, words),
             "file" => files::answer(rt, call, words),
             "generated" => generated::answer(rt, call, words),
+            "speed" => speed::answer(rt, call, words),
             _ => bail!("no such call"),
         }
     }

@@ -9,11 +9,11 @@
 //
 // WORDS are those of the program, each behind a bar. What they name is held where it is a file of the folder `data`,
 // or `full` or `long`, which are spaces up to the greatest length of a document and one above it.
-use crate::outcomes::{program_words, status_and_text, status_left_and_text};
-use anyhow::{Context, Result, bail};
-use picky_gate::{FixedCabinet, MemoryCabinet, MemorySink, run};
+use crate::outcomes::{program_words, run_untold, status_and_text, status_left_and_text};
+use anyhow::{Result, bail};
+use picky_gate::{FixedCabinet, MemoryCabinet};
 use rows::{Answer, Words};
-use std::alloc::AllocError;
+use std::alloc::{AllocError, Global};
 use std::fs;
 
 const LIMIT: usize = 1_048_576;
@@ -50,45 +50,33 @@ pub(crate) fn answer(rt: &HostRuntime, call: &str, words: &mut Words<'_>) -> Res
 }
 
 fn run_with_room(rt: &HostRuntime, words: &mut Words<'_>) -> Result<Answer> {
-    let alloc = rt.alloc();
-    let words = program_words(alloc, words)?;
+    let words = program_words(rt.alloc(), words)?;
     let mut cabinet = cabinet(rt, &words)?;
-    let mut out = MemorySink::new(alloc, 300)?;
-    let status = run(alloc, &words, &mut cabinet, &mut out);
-    status_and_text(alloc, status.code, &out)
+    status_and_text(rt.alloc(), &words, &mut cabinet, 300)
 }
 
 fn run_in(rt: &HostRuntime, words: &mut Words<'_>) -> Result<Answer> {
-    let alloc = rt.alloc();
     let room = words.size()?;
-    let words = program_words(alloc, words)?;
+    let words = program_words(rt.alloc(), words)?;
     let mut cabinet = cabinet(rt, &words)?;
-    let mut out = MemorySink::new(alloc, room)?;
-    let status = run(alloc, &words, &mut cabinet, &mut out);
-    status_left_and_text(alloc, status.code, out)
+    status_left_and_text(rt.alloc(), &words, &mut cabinet, room)
 }
 
 fn run_over(rt: &HostRuntime, words: &mut Words<'_>) -> Result<Answer> {
-    let alloc = rt.alloc();
     let path = words.next();
-    let bytes = words.bytes(alloc)?;
-    let words = program_words(alloc, words)?;
+    let bytes = words.bytes(rt.alloc())?;
+    let words = program_words(rt.alloc(), words)?;
     let mut cabinet = cabinet(rt, &words)?;
     cabinet.put(path, bytes)?;
-    let mut out = MemorySink::new(alloc, 100)?;
-    let status = run(alloc, &words, &mut cabinet, &mut out);
-    status_and_text(alloc, status.code, &out)
+    status_and_text(rt.alloc(), &words, &mut cabinet, 100)
 }
 
 fn run_failing(rt: &HostRuntime, words: &mut Words<'_>) -> Result<Answer> {
-    let alloc = rt.alloc();
-    let call = words.number()?;
-    let words = program_words(alloc, words)?;
+    let call = words.parsed::<u64>()?;
+    let words = program_words(rt.alloc(), words)?;
     let mut cabinet = cabinet(rt, &words)?;
-    cabinet.fail_at(u64::try_from(call).ok().context("no such call")?)?;
-    let mut out = MemorySink::new(alloc, 100)?;
-    let status = run(alloc, &words, &mut cabinet, &mut out);
-    status_and_text(alloc, status.code, &out)
+    cabinet.fail_at(call)?;
+    status_and_text(rt.alloc(), &words, &mut cabinet, 100)
 }
 
 fn fixed_cabinet(rt: &HostRuntime, words: &[String]) -> Result<FixedCabinet, AllocError> {
@@ -102,24 +90,25 @@ fn fixed_cabinet(rt: &HostRuntime, words: &[String]) -> Result<FixedCabinet, All
 }
 
 fn run_fixed(rt: &HostRuntime, words: &mut Words<'_>) -> Result<Answer> {
-    let alloc = rt.alloc();
-    let words = program_words(alloc, words)?;
+    let words = program_words(rt.alloc(), words)?;
     let mut cabinet = fixed_cabinet(rt, &words)?;
-    let mut out = MemorySink::new(alloc, 100)?;
-    let status = run(alloc, &words, &mut cabinet, &mut out);
-    status_and_text(alloc, status.code, &out)
+    status_and_text(rt.alloc(), &words, &mut cabinet, 100)
+}
+
+// Paths, each behind a bar.
+fn with_bars(alloc: Global, paths: &[String]) -> Result<String, AllocError> {
+    let mut text = String::new(alloc);
+    for path in paths {
+        text.push('|')?;
+        text.push_str(path)?;
+    }
+    Ok(text)
 }
 
 fn asked(rt: &HostRuntime, words: &mut Words<'_>) -> Result<Answer> {
-    let alloc = rt.alloc();
-    let words = program_words(alloc, words)?;
+    let words = program_words(rt.alloc(), words)?;
     let mut cabinet = cabinet(rt, &words)?;
-    let mut out = MemorySink::new(alloc, 100)?;
-    let _status = run(alloc, &words, &mut cabinet, &mut out);
-    let mut paths = String::new(alloc);
-    for path in cabinet.asked() {
-        paths.push('|')?;
-        paths.push_str(path)?;
-    }
-    Answer::lines(alloc, &paths)
+    run_untold(rt.alloc(), &words, &mut cabinet, 100)?;
+    let paths = with_bars(rt.alloc(), cabinet.asked())?;
+    Answer::lines(rt.alloc(), &paths)
 }

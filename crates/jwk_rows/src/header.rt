@@ -5,6 +5,7 @@
 //     header_in_json.equal TEXT TEXT    whether the headers of two texts are equal
 //     header_in_json.beside NAME TEXT   the header with EdDSA and one additional member, whose tree is the text's, as compact text
 //     header_in_json.new TEXT           the header with EdDSA and this content type, as compact text
+use crate::shown::{Shows, Text, told};
 use anyhow::{Result, bail};
 use indexmap::IndexMap;
 use picky_json::parse;
@@ -17,28 +18,12 @@ use std::alloc::{AllocError, Global};
 
 pub(crate) fn answer(alloc: Global, call: &str, words: &mut Words<'_>) -> Result<Answer> {
     match call {
-        "again" => told(alloc, again(alloc, words.rest())),
-        "names" => told(alloc, names(alloc, words.rest())),
-        "equal" => compared(alloc, equal(alloc, words.next(), words.rest())),
-        "beside" => told(alloc, beside(alloc, words.next(), words.rest())),
-        "new" => told(alloc, new(alloc, words.rest())),
+        "again" => again(alloc, words.rest()),
+        "names" => names(alloc, words.rest()),
+        "equal" => equal(alloc, words),
+        "beside" => beside(alloc, words),
+        "new" => new(alloc, words.rest()),
         _ => bail!("no such call"),
-    }
-}
-
-// The text, or the refusal.
-fn told(alloc: Global, text: Result<String, FormError>) -> Result<Answer> {
-    match text {
-        Ok(text) => Answer::lines(alloc, &text),
-        Err(error) => Answer::debug(alloc, &error),
-    }
-}
-
-// Whether both are equal, or the refusal.
-fn compared(alloc: Global, equal: Result<bool, FormError>) -> Result<Answer> {
-    match equal {
-        Ok(equal) => Ok(Answer::Truth(equal)),
-        Err(error) => Answer::debug(alloc, &error),
     }
 }
 
@@ -49,32 +34,51 @@ fn tree_in(alloc: Global, text: &str) -> Result<Value, FormError> {
     }
 }
 
-fn header_of(alloc: Global, tree: Value) -> Result<JwsHeader, FormError> {
-    JwsHeader::from_tree(alloc, &tree)
-}
-
 fn header_in(alloc: Global, text: &str) -> Result<JwsHeader, FormError> {
-    header_of(alloc, tree_in(alloc, text)?)
+    let tree = tree_in(alloc, text)?;
+    let header = JwsHeader::from_tree(alloc, &tree);
+    drop(tree);
+    header
 }
 
-fn tree_of(alloc: Global, header: JwsHeader) -> Result<Value, FormError> {
-    header.to_tree(alloc)
+// A tree, as compact text.
+struct CompactTree;
+
+impl Shows<Value> for CompactTree {
+    fn show(alloc: Global, tree: &Value) -> Result<Answer> {
+        told::<Text, _, _>(alloc, tree.to_string(alloc))
+    }
 }
 
-fn compact(alloc: Global, tree: Value) -> Result<String, AllocError> {
-    tree.to_string(alloc)
+// A header, as compact text.
+struct Compact;
+
+impl Shows<JwsHeader> for Compact {
+    fn show(alloc: Global, header: &JwsHeader) -> Result<Answer> {
+        told::<CompactTree, _, _>(alloc, header.to_tree(alloc))
+    }
 }
 
-fn text_of(alloc: Global, header: JwsHeader) -> Result<String, FormError> {
-    Ok(compact(alloc, tree_of(alloc, header)?)?)
+// A copy of a header, as compact text.
+struct Copied;
+
+impl Shows<JwsHeader> for Copied {
+    fn show(alloc: Global, header: &JwsHeader) -> Result<Answer> {
+        told::<Compact, _, _>(alloc, header.clone(alloc))
+    }
 }
 
-fn copied(alloc: Global, header: JwsHeader) -> Result<JwsHeader, AllocError> {
-    header.clone(alloc)
+fn again(alloc: Global, text: &str) -> Result<Answer> {
+    told::<Copied, _, _>(alloc, header_in(alloc, text))
 }
 
-fn again(alloc: Global, text: &str) -> Result<String, FormError> {
-    text_of(alloc, copied(alloc, header_in(alloc, text)?)?)
+// The names of a header's additional members.
+struct MemberNames;
+
+impl Shows<JwsHeader> for MemberNames {
+    fn show(alloc: Global, header: &JwsHeader) -> Result<Answer> {
+        told::<Text, _, _>(alloc, keys(alloc, &header.additional))
+    }
 }
 
 fn keys(alloc: Global, members: &IndexMap<String, Value>) -> Result<String, AllocError> {
@@ -88,21 +92,30 @@ fn keys(alloc: Global, members: &IndexMap<String, Value>) -> Result<String, Allo
     Ok(keys)
 }
 
-fn names_of(alloc: Global, header: JwsHeader) -> Result<String, AllocError> {
-    keys(alloc, &header.additional)
+fn names(alloc: Global, text: &str) -> Result<Answer> {
+    told::<MemberNames, _, _>(alloc, header_in(alloc, text))
 }
 
-fn names(alloc: Global, text: &str) -> Result<String, FormError> {
-    Ok(names_of(alloc, header_in(alloc, text)?)?)
+fn equal(alloc: Global, words: &mut Words<'_>) -> Result<Answer> {
+    let header = header_in(alloc, words.next());
+    let other = header_in(alloc, words.rest());
+    let answer = compared(alloc, &header, &other);
+    drop(header);
+    drop(other);
+    answer
 }
 
-fn same(header: JwsHeader, other: JwsHeader) -> bool {
-    header == other
-}
-
-fn equal(alloc: Global, text: &str, other: &str) -> Result<bool, FormError> {
-    let header = header_in(alloc, text)?;
-    Ok(same(header, header_in(alloc, other)?))
+// Whether both are equal, or the first refusal.
+fn compared(
+    alloc: Global,
+    header: &Result<JwsHeader, FormError>,
+    other: &Result<JwsHeader, FormError>,
+) -> Result<Answer> {
+    match (header, other) {
+        (Ok(header), Ok(other)) => Ok(Answer::Truth(header == other)),
+        (Err(error), _) => Answer::debug(alloc, error),
+        (_, Err(error)) => Answer::debug(alloc, error),
+    }
 }
 
 fn member(alloc: Global, name: &str, tree: Value) -> Result<IndexMap<String, Value>, AllocError> {
@@ -117,15 +130,17 @@ fn with_members(alloc: Global, members: IndexMap<String, Value>) -> JwsHeader {
     header
 }
 
-fn beside(alloc: Global, name: &str, text: &str) -> Result<String, FormError> {
+// The header with one additional member.
+fn with_member(alloc: Global, name: &str, text: &str) -> Result<JwsHeader, FormError> {
     let members = member(alloc, name, tree_in(alloc, text)?)?;
-    text_of(alloc, with_members(alloc, members))
+    Ok(with_members(alloc, members))
 }
 
-fn with_cty(alloc: Global, cty: &str) -> Result<JwsHeader, AllocError> {
-    JwsHeader::new_with_cty(alloc, JwsAlg::EdDSA, cty)
+fn beside(alloc: Global, words: &mut Words<'_>) -> Result<Answer> {
+    let name = words.next();
+    told::<Compact, _, _>(alloc, with_member(alloc, name, words.rest()))
 }
 
-fn new(alloc: Global, cty: &str) -> Result<String, FormError> {
-    text_of(alloc, with_cty(alloc, cty)?)
+fn new(alloc: Global, cty: &str) -> Result<Answer> {
+    told::<Compact, _, _>(alloc, JwsHeader::new_with_cty(alloc, JwsAlg::EdDSA, cty))
 }

@@ -5,112 +5,140 @@
 //     key_in_json.set TEXT        the set that the text tells, as compact text
 //     key_in_json.der TEXT        the SubjectPublicKeyInfo of the key that the text tells
 //     key_in_json.of BYTES        the key of a SubjectPublicKeyInfo, as compact text
+use crate::shown::{Hex, Shows, Text, told};
 use anyhow::{Result, bail};
-use picky_jwk::{Jwk, JwkError, JwkSet};
-use picky_key_der::{KeyError, PublicKey};
+use picky_jwk::{Jwk, JwkSet};
+use picky_key_der::PublicKey;
 use rows::{Answer, Words};
-use std::alloc::{AllocError, Global};
+use std::alloc::Global;
 
 pub(crate) fn answer(alloc: Global, call: &str, words: &mut Words<'_>) -> Result<Answer> {
     match call {
-        "again" => told(alloc, again(alloc, words.rest())),
-        "lines" => told(alloc, lines(alloc, words.rest())),
-        "set" => told(alloc, set(alloc, words.rest())),
-        "der" => der(alloc, key_of(alloc, words.rest())),
+        "again" => again(alloc, words.rest()),
+        "lines" => lines(alloc, words.rest()),
+        "set" => set(alloc, words.rest()),
+        "der" => der(alloc, words.rest()),
         "of" => of(alloc, words),
         _ => bail!("no such call"),
     }
 }
 
-// The text, or the refusal.
-fn told(alloc: Global, text: Result<String, JwkError>) -> Result<Answer> {
-    match text {
-        Ok(text) => Answer::lines(alloc, &text),
-        Err(error) => Answer::debug(alloc, &error),
+// A key, as compact text.
+struct Compact;
+
+impl Shows<Jwk> for Compact {
+    fn show(alloc: Global, key: &Jwk) -> Result<Answer> {
+        told::<Text, _, _>(alloc, key.to_json(alloc))
     }
 }
 
-fn key_in(alloc: Global, text: &str) -> Result<Jwk, JwkError> {
-    Jwk::from_json(alloc, text)
-}
+// A copy of a key, as compact text.
+struct Copied;
 
-fn compact(alloc: Global, key: Jwk) -> Result<String, JwkError> {
-    key.to_json(alloc)
-}
-
-fn pretty(alloc: Global, key: Jwk) -> Result<String, JwkError> {
-    key.to_json_pretty(alloc)
-}
-
-fn copied(alloc: Global, key: Jwk) -> Result<Jwk, AllocError> {
-    key.clone(alloc)
-}
-
-fn again(alloc: Global, text: &str) -> Result<String, JwkError> {
-    compact(alloc, copied(alloc, key_in(alloc, text)?)?)
-}
-
-fn lines(alloc: Global, text: &str) -> Result<String, JwkError> {
-    let lines = pretty(alloc, key_in(alloc, text)?)?;
-    compact(alloc, key_in(alloc, &lines)?)
-}
-
-fn set_in(alloc: Global, text: &str) -> Result<JwkSet, JwkError> {
-    JwkSet::from_json(alloc, text)
-}
-
-fn compact_set(alloc: Global, set: JwkSet) -> Result<String, JwkError> {
-    set.to_json(alloc)
-}
-
-fn pretty_set(alloc: Global, set: JwkSet) -> Result<String, JwkError> {
-    set.to_json_pretty(alloc)
-}
-
-fn copied_set(alloc: Global, set: JwkSet) -> Result<JwkSet, AllocError> {
-    set.clone(alloc)
-}
-
-fn set(alloc: Global, text: &str) -> Result<String, JwkError> {
-    let lines = pretty_set(alloc, set_in(alloc, text)?)?;
-    compact_set(alloc, copied_set(alloc, set_in(alloc, &lines)?)?)
-}
-
-fn public(alloc: Global, key: Jwk) -> Result<PublicKey, JwkError> {
-    key.to_public_key(alloc)
-}
-
-// The public key that a text tells.
-fn key_of(alloc: Global, text: &str) -> Result<PublicKey, JwkError> {
-    public(alloc, key_in(alloc, text)?)
-}
-
-// The encoding, or the refusal.
-fn written(alloc: Global, der: Result<Vec<u8>, KeyError>) -> Result<Answer> {
-    match der {
-        Ok(bytes) => Answer::bytes(alloc, &bytes),
-        Err(error) => Answer::debug(alloc, &error),
+impl Shows<Jwk> for Copied {
+    fn show(alloc: Global, key: &Jwk) -> Result<Answer> {
+        told::<Compact, _, _>(alloc, key.clone(alloc))
     }
 }
 
-fn der(alloc: Global, key: Result<PublicKey, JwkError>) -> Result<Answer> {
-    match key {
-        Ok(key) => written(alloc, key.to_der(alloc)),
-        Err(error) => Answer::debug(alloc, &error),
+fn again(alloc: Global, text: &str) -> Result<Answer> {
+    told::<Copied, _, _>(alloc, Jwk::from_json(alloc, text))
+}
+
+// The key that a text tells, as compact text.
+struct Read;
+
+impl Shows<String> for Read {
+    fn show(alloc: Global, text: &String) -> Result<Answer> {
+        told::<Compact, _, _>(alloc, Jwk::from_json(alloc, text))
     }
 }
 
-fn holding(alloc: Global, key: PublicKey) -> Result<Jwk, JwkError> {
-    Jwk::from_public_key(alloc, &key)
+// A key written in lines, and read again.
+struct InLines;
+
+impl Shows<Jwk> for InLines {
+    fn show(alloc: Global, key: &Jwk) -> Result<Answer> {
+        told::<Read, _, _>(alloc, key.to_json_pretty(alloc))
+    }
 }
 
-fn text_of(alloc: Global, key: PublicKey) -> Result<String, JwkError> {
-    compact(alloc, holding(alloc, key)?)
+fn lines(alloc: Global, text: &str) -> Result<Answer> {
+    told::<InLines, _, _>(alloc, Jwk::from_json(alloc, text))
+}
+
+// A set, as compact text.
+struct CompactSet;
+
+impl Shows<JwkSet> for CompactSet {
+    fn show(alloc: Global, set: &JwkSet) -> Result<Answer> {
+        told::<Text, _, _>(alloc, set.to_json(alloc))
+    }
+}
+
+// A copy of a set, as compact text.
+struct CopiedSet;
+
+impl Shows<JwkSet> for CopiedSet {
+    fn show(alloc: Global, set: &JwkSet) -> Result<Answer> {
+        told::<CompactSet, _, _>(alloc, set.clone(alloc))
+    }
+}
+
+// The set that a text tells, copied.
+struct ReadSet;
+
+impl Shows<String> for ReadSet {
+    fn show(alloc: Global, text: &String) -> Result<Answer> {
+        told::<CopiedSet, _, _>(alloc, JwkSet::from_json(alloc, text))
+    }
+}
+
+// A set written in lines, and read again.
+struct SetInLines;
+
+impl Shows<JwkSet> for SetInLines {
+    fn show(alloc: Global, set: &JwkSet) -> Result<Answer> {
+        told::<ReadSet, _, _>(alloc, set.to_json_pretty(alloc))
+    }
+}
+
+fn set(alloc: Global, text: &str) -> Result<Answer> {
+    told::<SetInLines, _, _>(alloc, JwkSet::from_json(alloc, text))
+}
+
+// The encoding of a public key.
+struct Spki;
+
+impl Shows<PublicKey> for Spki {
+    fn show(alloc: Global, key: &PublicKey) -> Result<Answer> {
+        told::<Hex, _, _>(alloc, key.to_der(alloc))
+    }
+}
+
+// The encoding of the public key that a key in JSON holds.
+struct Public;
+
+impl Shows<Jwk> for Public {
+    fn show(alloc: Global, key: &Jwk) -> Result<Answer> {
+        told::<Spki, _, _>(alloc, key.to_public_key(alloc))
+    }
+}
+
+fn der(alloc: Global, text: &str) -> Result<Answer> {
+    told::<Public, _, _>(alloc, Jwk::from_json(alloc, text))
+}
+
+// A public key as a key in JSON.
+struct InJson;
+
+impl Shows<PublicKey> for InJson {
+    fn show(alloc: Global, key: &PublicKey) -> Result<Answer> {
+        told::<Compact, _, _>(alloc, Jwk::from_public_key(alloc, key))
+    }
 }
 
 fn of(alloc: Global, words: &mut Words<'_>) -> Result<Answer> {
-    match PublicKey::from_der(alloc, &words.bytes(alloc)?) {
-        Ok(key) => told(alloc, text_of(alloc, key)),
-        Err(_) => bail!("no public key"),
-    }
+    let bytes = words.bytes(alloc)?;
+    told::<InJson, _, _>(alloc, PublicKey::from_der(alloc, &bytes))
 }

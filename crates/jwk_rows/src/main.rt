@@ -3,6 +3,7 @@
 
 mod header;
 mod jwk;
+mod shown;
 
 use anyhow::{Result, bail};
 use rows::{Answer, Calls, Words, answer_rows};

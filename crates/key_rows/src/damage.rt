@@ -6,6 +6,7 @@
 use crate::{private, public};
 use anyhow::Result;
 use picky_key_der::{KeyError, PublicKey};
+use picky_key_private::PrivateKey;
 use rows::{Answer, Words};
 use std::alloc::{AllocError, Global};
 
@@ -34,31 +35,31 @@ fn refused(error: &KeyError) -> char {
     }
 }
 
-fn written(alloc: Global, key: &PublicKey, bytes: &[u8]) -> char {
-    match public::der_of(alloc, key) {
+fn written(der: &Result<Vec<u8>, KeyError>, bytes: &[u8]) -> char {
+    match der {
         Ok(der) => { if der.as_slice() == bytes { 'r' } else { 'o' } }
-        Err(error) => refused(&error),
+        Err(error) => refused(error),
     }
 }
 
-fn public_letter(alloc: Global, bytes: &[u8]) -> char {
-    match public::key_in(alloc, bytes) {
-        Ok(key) => written(alloc, &key, bytes),
-        Err(error) => refused(&error),
+fn public_letter(alloc: Global, key: &Result<PublicKey, KeyError>, bytes: &[u8]) -> char {
+    match key {
+        Ok(key) => written(&public::der_of(alloc, key), bytes),
+        Err(error) => refused(error),
     }
 }
 
-fn private_letter(alloc: Global, bytes: &[u8]) -> char {
-    match private::key_in(alloc, bytes) {
+fn private_letter(key: &Result<PrivateKey, KeyError>) -> char {
+    match key {
         Ok(_) => 'r',
-        Err(error) => refused(&error),
+        Err(error) => refused(error),
     }
 }
 
 fn letter(alloc: Global, half: Half, bytes: &[u8]) -> char {
     match half {
-        Half::Public => public_letter(alloc, bytes),
-        Half::Private => private_letter(alloc, bytes),
+        Half::Public => public_letter(alloc, &public::key_in(alloc, bytes), bytes),
+        Half::Private => private_letter(&private::key_in(alloc, bytes)),
     }
 }
 

@@ -1,8 +1,8 @@
 // ECDSA signatures.
-use anyhow::{Result, bail};
-use picky_der::{from_bytes, to_vec};
+use anyhow::Result;
+use picky_der::{DerError, from_bytes, to_vec};
 use picky_key_der::{EcdsaSignatureValue, SignatureError};
-use rows::{Answer, Words};
+use rows::{Answer, Words, refused};
 use std::alloc::Global;
 
 pub fn answer(alloc: Global, call: &str, words: &mut Words<'_>) -> Result<Answer> {
@@ -10,7 +10,7 @@ pub fn answer(alloc: Global, call: &str, words: &mut Words<'_>) -> Result<Answer
     match call {
         "of" => of(alloc, size, words),
         "fixed" => fixed(alloc, size, words),
-        _ => bail!("no such call"),
+        _ => refused("no such call"),
     }
 }
 
@@ -22,30 +22,51 @@ fn refusal(error: &SignatureError) -> Answer {
     }
 }
 
+fn der_of(alloc: Global, pair: &EcdsaSignatureValue) -> Result<Vec<u8>, DerError> {
+    to_vec(alloc, pair)
+}
+
+// The pair whose DER the bytes are.
+fn pair_in(alloc: Global, bytes: &[u8]) -> Result<EcdsaSignatureValue, DerError> {
+    from_bytes(alloc, bytes)
+}
+
 fn written(alloc: Global, pair: &EcdsaSignatureValue) -> Result<Answer> {
-    Answer::bytes(alloc, &to_vec(alloc, pair)?)
+    Answer::bytes(alloc, &der_of(alloc, pair)?)
+}
+
+// What a pair of halves is written as, or the refusal.
+fn told(alloc: Global, pair: &Result<EcdsaSignatureValue, SignatureError>) -> Result<Answer> {
+    match pair {
+        Ok(pair) => written(alloc, pair),
+        Err(error) => Ok(refusal(error)),
+    }
+}
+
+// The halves, or the refusal.
+fn told_halves(alloc: Global, halves: &Result<Vec<u8>, SignatureError>) -> Result<Answer> {
+    match halves {
+        Ok(halves) => Answer::bytes(alloc, halves),
+        Err(error) => Ok(refusal(error)),
+    }
 }
 
 fn of(alloc: Global, size: usize, words: &mut Words<'_>) -> Result<Answer> {
     if size == 0 || 66 < size {
-        bail!("no such size");
+        return refused("no such size");
     }
-    match EcdsaSignatureValue::from_fixed(alloc, &words.bytes(alloc)?, size) {
-        Ok(pair) => written(alloc, &pair),
-        Err(error) => Ok(refusal(&error)),
-    }
+    let bytes = words.bytes(alloc)?;
+    told(alloc, &EcdsaSignatureValue::from_fixed(alloc, &bytes, size))
 }
 
 fn halves(alloc: Global, pair: &EcdsaSignatureValue, size: usize) -> Result<Answer> {
     if !pair.is_proper() {
         return Ok(Answer::Word("improper"));
     }
-    match pair.to_fixed(alloc, size) {
-        Ok(halves) => Answer::bytes(alloc, &halves),
-        Err(error) => Ok(refusal(&error)),
-    }
+    told_halves(alloc, &pair.to_fixed(alloc, size))
 }
 
 fn fixed(alloc: Global, size: usize, words: &mut Words<'_>) -> Result<Answer> {
-    halves(alloc, &from_bytes(alloc, &words.bytes(alloc)?)?, size)
+    let bytes = words.bytes(alloc)?;
+    halves(alloc, &pair_in(alloc, &bytes)?, size)
 }

@@ -31,8 +31,8 @@ mod public;
 mod records;
 mod users;
 
-use anyhow::{Result, bail};
-use rows::{Answer, Calls, Words, answer_rows};
+use anyhow::Result;
+use rows::{Answer, Calls, Words, answer_rows, refused};
 use std::alloc::Global;
 use std::process::ExitCode;
 
@@ -46,7 +46,7 @@ impl Calls for KeyCalls {
             "ecdsa" => ecdsa::answer(alloc, call, words),
             "records" => records::answer(alloc, call, words),
             "users" => users::answer(alloc, call, words),
-            _ => bail!("no such notion"),
+            _ => refused("no such notion"),
         }
     }
 }

@@ -1,10 +1,10 @@
 // Private keys.
 use crate::damage::{self, Half};
 use crate::public::{curve_of, name_of, parts_of, refusal};
-use anyhow::{Result, bail};
+use anyhow::Result;
 use picky_key_der::KeyError;
 use picky_key_private::{PrivateKey, PrivateKeyKind};
-use rows::{Answer, Words};
+use rows::{Answer, Words, refused};
 use std::alloc::Global;
 
 pub fn answer(alloc: Global, call: &str, words: &mut Words<'_>) -> Result<Answer> {
@@ -20,17 +20,23 @@ pub fn key_in(alloc: Global, bytes: &[u8]) -> Result<PrivateKey, KeyError> {
 }
 
 fn of_read(alloc: Global, call: &str, words: &mut Words<'_>) -> Result<Answer> {
-    match key_in(alloc, &words.bytes(alloc)?) {
-        Ok(key) => told(alloc, call, &key),
-        Err(error) => Ok(refusal(&error)),
+    let bytes = words.bytes(alloc)?;
+    told(alloc, call, &key_in(alloc, &bytes))
+}
+
+// What is asked of a key, or the refusal.
+fn told(alloc: Global, call: &str, key: &Result<PrivateKey, KeyError>) -> Result<Answer> {
+    match key {
+        Ok(key) => asked(alloc, call, key),
+        Err(error) => Ok(refusal(error)),
     }
 }
 
-fn told(alloc: Global, call: &str, key: &PrivateKey) -> Result<Answer> {
+fn asked(alloc: Global, call: &str, key: &PrivateKey) -> Result<Answer> {
     match call {
         "read" => part_of(alloc, key),
         "again" => Answer::bytes(alloc, key.to_pkcs8()),
-        _ => bail!("no such call"),
+        _ => refused("no such call"),
     }
 }
 

@@ -1,12 +1,12 @@
 // Public keys.
 use crate::damage::{self, Half};
-use anyhow::{Result, bail};
+use anyhow::Result;
 use picky_asn1_bits::IntegerAsn1;
 use picky_contract::Bytes;
 use picky_key_der::{
     EcCurve, EdAlgorithm, KeyError, KeyFamily, NamedEcCurve, PublicKey, PublicKeyKind,
 };
-use rows::{Answer, Words};
+use rows::{Answer, Words, refused};
 use std::alloc::{AllocError, Global};
 
 pub fn answer(alloc: Global, call: &str, words: &mut Words<'_>) -> Result<Answer> {
@@ -51,8 +51,8 @@ pub fn name_of(algorithm: EdAlgorithm) -> &'static str {
     }
 }
 
-// An answer, and bytes behind it.
-fn with_bytes(alloc: Global, first: Result<Answer>, bytes: &[u8]) -> Result<Answer> {
+/// An answer, and bytes behind it.
+pub fn with_bytes(alloc: Global, first: Result<Answer>, bytes: &[u8]) -> Result<Answer> {
     Answer::pair(alloc, first?, Answer::bytes(alloc, bytes)?)
 }
 
@@ -105,35 +105,38 @@ pub fn der_of(alloc: Global, key: &PublicKey) -> Result<Vec<u8>, KeyError> {
 }
 
 fn of_read(alloc: Global, call: &str, words: &mut Words<'_>) -> Result<Answer> {
-    match key_in(alloc, &words.bytes(alloc)?) {
-        Ok(key) => told(alloc, call, &key),
-        Err(error) => Ok(refusal(&error)),
+    let bytes = words.bytes(alloc)?;
+    told(alloc, call, &key_in(alloc, &bytes))
+}
+
+// What is asked of a key, or the refusal.
+fn told(alloc: Global, call: &str, key: &Result<PublicKey, KeyError>) -> Result<Answer> {
+    match key {
+        Ok(key) => asked(alloc, call, key),
+        Err(error) => Ok(refusal(error)),
     }
 }
 
-fn told(alloc: Global, call: &str, key: &PublicKey) -> Result<Answer> {
+fn asked(alloc: Global, call: &str, key: &PublicKey) -> Result<Answer> {
     match call {
         "read" => parts_of(alloc, key),
         "again" => written(alloc, key),
         "family" => Ok(Answer::Word(family_word(key.family()))),
-        _ => bail!("no such call"),
+        _ => refused("no such call"),
+    }
+}
+
+// The bytes, or the refusal.
+fn told_bytes(alloc: Global, bytes: &Result<Vec<u8>, KeyError>) -> Result<Answer> {
+    match bytes {
+        Ok(bytes) => Answer::bytes(alloc, bytes),
+        Err(error) => Ok(refusal(error)),
     }
 }
 
 /// What the key is written as, or the refusal.
 pub fn written(alloc: Global, key: &PublicKey) -> Result<Answer> {
-    match der_of(alloc, key) {
-        Ok(bytes) => Answer::bytes(alloc, &bytes),
-        Err(error) => Ok(refusal(&error)),
-    }
-}
-
-// What a key that is made is written as, or the refusal.
-fn made(alloc: Global, key: Result<PublicKey, KeyError>) -> Result<Answer> {
-    match key {
-        Ok(key) => written(alloc, &key),
-        Err(error) => Ok(refusal(&error)),
-    }
+    told_bytes(alloc, &der_of(alloc, key))
 }
 
 fn curve_named(name: &str) -> Result<EcCurve> {
@@ -141,40 +144,52 @@ fn curve_named(name: &str) -> Result<EcCurve> {
         "P-256" => Ok(EcCurve::NistP256),
         "P-384" => Ok(EcCurve::NistP384),
         "P-521" => Ok(EcCurve::NistP521),
-        _ => bail!("no such curve"),
+        _ => refused("no such curve"),
     }
+}
+
+// The key of a point.
+fn on_curve(alloc: Global, curve: EcCurve, x: &[u8], y: &[u8]) -> Result<PublicKey, KeyError> {
+    PublicKey::from_ec_components(alloc, curve, x, y)
 }
 
 fn point(alloc: Global, words: &mut Words<'_>) -> Result<Answer> {
     let curve = curve_named(words.next())?;
     let x = words.bytes(alloc)?;
     let y = words.bytes(alloc)?;
-    made(alloc, PublicKey::from_ec_components(alloc, curve, &x, &y))
+    told(alloc, "again", &on_curve(alloc, curve, &x, &y))
 }
 
 fn number(alloc: Global, words: &mut Words<'_>) -> Result<IntegerAsn1> {
     Ok(IntegerAsn1(Bytes::new(words.bytes(alloc)?)))
 }
 
+// The RSA key of two numbers.
+fn of_numbers(modulus: IntegerAsn1, exponent: IntegerAsn1) -> PublicKey {
+    PublicKey::from_rsa_components(modulus, exponent)
+}
+
 fn rsa(alloc: Global, words: &mut Words<'_>) -> Result<Answer> {
     let modulus = number(alloc, words)?;
     let exponent = number(alloc, words)?;
-    written(alloc, &PublicKey::from_rsa_components(modulus, exponent))
+    written(alloc, &of_numbers(modulus, exponent))
 }
 
 fn algorithm_named(name: &str) -> Result<EdAlgorithm> {
     match name {
         "Ed25519" => Ok(EdAlgorithm::Ed25519),
         "X25519" => Ok(EdAlgorithm::X25519),
-        _ => bail!("no such algorithm"),
+        _ => refused("no such algorithm"),
     }
+}
+
+// The key of an Edwards algorithm.
+fn of_encoded(algorithm: EdAlgorithm, bytes: Vec<u8>) -> Result<PublicKey, KeyError> {
+    PublicKey::from_ed_encoded_components(algorithm, bytes)
 }
 
 fn edwards(alloc: Global, words: &mut Words<'_>) -> Result<Answer> {
     let algorithm = algorithm_named(words.next())?;
     let bytes = words.bytes(alloc)?;
-    made(
-        alloc,
-        PublicKey::from_ed_encoded_components(algorithm, bytes),
-    )
+    told(alloc, "again", &of_encoded(algorithm, bytes))
 }

@@ -1,5 +1,5 @@
 // The arguments of a row.
-use anyhow::{Context, Result, bail};
+use anyhow::{Error, Result, bail};
 use std::alloc::Global;
 use std::str::FromStr;
 
@@ -9,14 +9,58 @@ pub struct Words<'a> {
     rest: &'a str,
 }
 
+/// The refusal of a row, by its cause.
+pub fn refused<T>(cause: &'static str) -> Result<T> {
+    Err(Error::msg(cause))
+}
+
+// What stands before the first such text and what stands behind it, which is nothing where there is none.
+pub(crate) fn cut<'a>(text: &'a str, end: &str) -> (&'a str, &'a str) {
+    text.split_once(end).unwrap_or((text, ""))
+}
+
+/// What is there, or the refusal of a row, by its cause.
+pub fn present<T>(value: Option<T>, cause: &'static str) -> Result<T> {
+    match value {
+        Some(value) => Ok(value),
+        None => refused(cause),
+    }
+}
+
 // What stands for a character behind a backslash.
 fn escape(character: char) -> Result<char> {
     match character {
         'n' => Ok('\n'),
         'r' => Ok('\r'),
         '\\' => Ok('\\'),
-        _ => bail!("no such escape"),
+        _ => refused("no such escape"),
     }
+}
+
+// Puts what a character means behind a text, and says whether it escapes the next one.
+fn push_meant(text: &mut String, escaped: bool, character: char) -> Result<bool> {
+    if !escaped && character == '\\' {
+        return Ok(true);
+    }
+    text.push(if escaped {
+        escape(character)?
+    } else {
+        character
+    })?;
+    Ok(false)
+}
+
+// The text of many lines that a line spells.
+fn unescaped(alloc: Global, line: &str) -> Result<String> {
+    let mut text = String::new(alloc);
+    let mut escaped = false;
+    for character in line.chars() {
+        escaped = push_meant(&mut text, escaped, character)?;
+    }
+    if escaped {
+        return refused("a backslash stands last");
+    }
+    Ok(text)
 }
 
 impl<'a> Words<'a> {
@@ -27,7 +71,7 @@ impl<'a> Words<'a> {
 
     /// The next word, an empty one where none is left.
     pub fn next(&mut self) -> &'a str {
-        let (word, rest) = self.rest.split_once(' ').unwrap_or((self.rest, ""));
+        let (word, rest) = cut(self.rest, " ");
         self.rest = rest;
         word
     }
@@ -41,28 +85,13 @@ impl<'a> Words<'a> {
 
     /// All that is left, as a text of many lines: `\n` is LF, `\r` CR and `\\` a backslash.
     pub fn lines(&mut self, alloc: Global) -> Result<String> {
-        let mut text = String::new(alloc);
-        let mut escaped = false;
-        for character in self.rest().chars() {
-            if escaped {
-                text.push(escape(character)?)?;
-                escaped = false;
-            } else if character == '\\' {
-                escaped = true;
-            } else {
-                text.push(character)?;
-            }
-        }
-        if escaped {
-            bail!("a backslash stands last");
-        }
-        Ok(text)
+        unescaped(alloc, self.rest())
     }
 
     /// Bytes in hex, `-` for none.
     pub fn bytes(&mut self, alloc: Global) -> Result<Vec<u8>> {
         match self.next() {
-            "" => bail!("bytes are missing"),
+            "" => refused("bytes are missing"),
             "-" => Ok(Vec::new(alloc)),
             word => Ok(hex::decode(alloc, word)?),
         }
@@ -72,15 +101,16 @@ impl<'a> Words<'a> {
     pub fn text(&mut self, alloc: Global) -> Result<String> {
         match String::from_utf8(self.bytes(alloc)?) {
             Ok(text) => Ok(text),
-            Err(_) => bail!("these bytes are no text"),
+            Err(_) => refused("these bytes are no text"),
         }
     }
 
     /// A byte, in hex.
     pub fn byte(&mut self) -> Result<u8> {
-        u8::from_str_radix(self.next(), 16)
-            .ok()
-            .context("a byte is missing")
+        present(
+            u8::from_str_radix(self.next(), 16).ok(),
+            "a byte is missing",
+        )
     }
 
     /// A word as the text of a value, as of a number in decimal.
@@ -88,7 +118,7 @@ impl<'a> Words<'a> {
     where
         T::Err: Drop,
     {
-        self.next().parse::<T>().ok().context("a number is missing")
+        present(self.next().parse::<T>().ok(), "a number is missing")
     }
 
     /// A size, a count or an index, in decimal.
@@ -106,7 +136,7 @@ impl<'a> Words<'a> {
         match self.next() {
             "true" => Ok(true),
             "false" => Ok(false),
-            _ => bail!("true or false is missing"),
+            _ => refused("true or false is missing"),
         }
     }
 
@@ -114,7 +144,7 @@ impl<'a> Words<'a> {
     pub fn end(&self) -> Result<()> {
         match self.rest {
             "" => Ok(()),
-            rest => bail!("{rest:?} is too much"),
+            rest => bail!("'{rest}' is too much"),
         }
     }
 }

@@ -9,13 +9,13 @@
 //     build.KIND PKCS8 HEAD STRING STEPS RECORDS    what each `build` gives, a ` | ` between two: the refusal as it is, or the text that is
 //                                                   printed, whether that reads back as the same value, and what a verifier says
 //                                                   of it, at the moment of its `created`, over what the builder was given
-use crate::keys::{found, private_of, public_of, records_of};
-use crate::printed::reads_back;
+use crate::keys::{private_of, public_of, records_of};
+use crate::printed::{ReadBack, pair};
+use crate::requests::ask_kind;
+use crate::shown::{Shows, found, kept, outcome};
 use anyhow::{Result, bail};
-use http::request::Request;
 use picky_http::{
     HttpRequest, HttpSignature, HttpSignatureBuilder, HttpSignatureError, HttpSignatureVerifier,
-    NoRequest, RequestHead, read_head,
 };
 use picky_key::{HashAlgorithm, PrivateKey, PublicKey, SignatureAlgorithm};
 use picky_records::Recorded;
@@ -23,83 +23,10 @@ use rows::{Answer, Words};
 use std::alloc::Global;
 
 pub(crate) fn answer(alloc: Global, kind: &str, words: &mut Words<'_>) -> Result<Answer> {
-    match kind {
-        "none" => over_none(alloc, words),
-        _ => over_bytes(alloc, kind, words),
-    }
-}
-
-fn over_none(alloc: Global, words: &mut Words<'_>) -> Result<Answer> {
     let key = private_of(alloc, words)?;
-    let _head = words.next();
-    over(alloc, &NoRequest, &key, words)
-}
-
-fn over_bytes(alloc: Global, kind: &str, words: &mut Words<'_>) -> Result<Answer> {
-    let key = private_of(alloc, words)?;
-    let head = head_of(alloc, words)?;
-    over_kind(alloc, kind, &head, &key, words)
-}
-
-// The request head that the bytes of the next word begin with.
-fn head_of(alloc: Global, words: &mut Words<'_>) -> Result<RequestHead> {
-    let bytes = words.bytes(alloc)?;
-    found(read_head(alloc, &bytes).ok(), "no such head")
-}
-
-fn over_kind(
-    alloc: Global,
-    kind: &str,
-    head: &RequestHead,
-    key: &PrivateKey,
-    words: &mut Words<'_>,
-) -> Result<Answer> {
-    match kind {
-        "head" => over_head(alloc, head, key, words),
-        "parts" => over_parts(alloc, head, key, words),
-        "request" => over_request(alloc, head, key, words),
-        _ => bail!("no such kind"),
-    }
-}
-
-fn over_head(
-    alloc: Global,
-    head: &RequestHead,
-    key: &PrivateKey,
-    words: &mut Words<'_>,
-) -> Result<Answer> {
-    over(alloc, head, key, words)
-}
-
-fn over_parts(
-    alloc: Global,
-    head: &RequestHead,
-    key: &PrivateKey,
-    words: &mut Words<'_>,
-) -> Result<Answer> {
-    let request = request_of(alloc, head)?;
-    over(alloc, &request.into_parts().0, key, words)
-}
-
-fn over_request(
-    alloc: Global,
-    head: &RequestHead,
-    key: &PrivateKey,
-    words: &mut Words<'_>,
-) -> Result<Answer> {
-    let request = request_of(alloc, head)?;
-    over(alloc, &request, key, words)
-}
-
-// The head as a request of the crate `http`.
-fn request_of(alloc: Global, head: &RequestHead) -> Result<Request<()>> {
-    let mut builder = Request::builder(alloc)
-        .method(head.method.as_str())
-        .uri(head.target.as_str());
-    for field in &head.fields {
-        builder = builder.header(field.name.as_str(), field.value.as_slice());
-    }
-    found(builder.body(()).ok(), "no such request")
+    let answer = ask_kind(alloc, kind, Some(&key), "build", words);
+    drop(key);
+    answer
 }
 
 fn algorithm_of(name: &str) -> Result<SignatureAlgorithm> {
@@ -123,23 +50,29 @@ struct Given<'a, Q> {
     records: &'a Recorded,
 }
 
-// What was set last, for the verifier.
-#[derive(Clone, Copy)]
-struct Set {
+// A builder, what was set last, for the verifier, and what was built.
+#[derive(Drop)]
+struct Made<'a, Q> {
+    builder: HttpSignatureBuilder<'a, Q>,
     algorithm: SignatureAlgorithm,
     is_given: bool,
+    told: String,
 }
 
-fn over<Q: HttpRequest>(
+// What is built over a request.
+pub(crate) fn build<Q: HttpRequest>(
     alloc: Global,
     request: &Q,
-    key: &PrivateKey,
+    key: Result<&PrivateKey>,
     words: &mut Words<'_>,
 ) -> Result<Answer> {
+    let key = key?;
     let string = words.text(alloc)?;
     let steps = words.next();
     let records = records_of(alloc, words)?;
-    over_string(alloc, request, key, &string, steps, &records)
+    let answer = over_string(alloc, request, key, &string, steps, &records);
+    drop(records);
+    answer
 }
 
 fn over_string<Q: HttpRequest>(
@@ -158,204 +91,195 @@ fn over_string<Q: HttpRequest>(
         string,
         records,
     };
-    told(alloc, &given, steps)
+    let answer = make_all(alloc, &given, steps);
+    drop(public);
+    answer
 }
 
 // What the steps give.
-fn told<Q: HttpRequest>(alloc: Global, given: &Given<'_, Q>, steps: &str) -> Result<Answer> {
-    let mut builder = HttpSignatureBuilder::new(alloc);
-    let mut set = Set {
+fn make_all<Q: HttpRequest>(alloc: Global, given: &Given<'_, Q>, steps: &str) -> Result<Answer> {
+    let mut made = Made {
+        builder: HttpSignatureBuilder::new(alloc),
         algorithm: SignatureAlgorithm::Ed25519,
         is_given: false,
+        told: String::new(alloc),
     };
-    let mut told = None;
-    for step in steps.split(',') {
-        if step == "build" {
-            let answer = built(alloc, given, set, builder.build(given.records))?;
-            told = Some(joined(alloc, told, answer)?);
-        } else {
-            set = stepped(&mut builder, given, set, step)?;
-        }
-    }
-    found(told, "nothing is built")
+    let outcome = take_steps(alloc, &mut made, given, steps);
+    let Made { builder, told, .. } = made;
+    drop(builder);
+    Ok(Answer::Text(kept(outcome, told)?))
 }
 
-fn joined(alloc: Global, told: Option<Answer>, answer: Answer) -> Result<Answer> {
-    match told {
-        Some(told) => {
-            let front = Answer::pair(alloc, told, Answer::Word("|"))?;
-            Answer::pair(alloc, front, answer)
-        }
-        None => Ok(answer),
-    }
-}
-
-fn stepped<'a, Q: HttpRequest>(
-    builder: &mut HttpSignatureBuilder<'a, Q>,
+fn take_steps<'a, Q: HttpRequest>(
+    alloc: Global,
+    made: &mut Made<'a, Q>,
     given: &Given<'a, Q>,
-    set: Set,
+    steps: &str,
+) -> Result<()> {
+    for step in steps.split(',') {
+        take_step(alloc, made, given, step)?;
+    }
+    Ok(())
+}
+
+fn take_step<'a, Q: HttpRequest>(
+    alloc: Global,
+    made: &mut Made<'a, Q>,
+    given: &Given<'a, Q>,
     step: &str,
-) -> Result<Set> {
+) -> Result<()> {
     let (word, value) = step.split_once('=').unwrap_or((step, ""));
     match word {
-        "method" => with_method(builder, given, set, value),
-        "asked" => Ok(ask(builder, given.request, set)),
-        "given" => Ok(give(builder, given.string, set)),
-        "legacy" => Ok(flagged(builder, set)),
-        _ => covered(builder, word, value, set),
+        "build" => build_once(alloc, made, given),
+        "method" => set_method(made, given, value),
+        "asked" => ask(made, given),
+        "given" => give(made, given),
+        "legacy" => flag(made),
+        _ => cover(&mut made.builder, word, value),
     }
 }
 
-fn ask<'a, Q: HttpRequest>(
-    builder: &mut HttpSignatureBuilder<'a, Q>,
-    request: &'a Q,
-    set: Set,
-) -> Set {
-    builder.generate_signing_string_using_http_request(request);
-    Set {
-        is_given: false,
-        ..set
-    }
+fn ask<'a, Q: HttpRequest>(made: &mut Made<'a, Q>, given: &Given<'a, Q>) -> Result<()> {
+    made.is_given = false;
+    made.builder
+        .generate_signing_string_using_http_request(given.request);
+    Ok(())
 }
 
-fn give<'a, Q: HttpRequest>(
-    builder: &mut HttpSignatureBuilder<'a, Q>,
-    string: &'a str,
-    set: Set,
-) -> Set {
-    builder.pre_generated_signing_string(string);
-    Set {
-        is_given: true,
-        ..set
-    }
+fn give<'a, Q: HttpRequest>(made: &mut Made<'a, Q>, given: &Given<'a, Q>) -> Result<()> {
+    made.is_given = true;
+    made.builder.pre_generated_signing_string(given.string);
+    Ok(())
 }
 
-fn flagged<Q: HttpRequest>(builder: &mut HttpSignatureBuilder<'_, Q>, set: Set) -> Set {
-    builder.legacy();
-    set
+fn flag<Q: HttpRequest>(made: &mut Made<'_, Q>) -> Result<()> {
+    made.builder.legacy();
+    Ok(())
 }
 
-fn with_method<'a, Q: HttpRequest>(
-    builder: &mut HttpSignatureBuilder<'a, Q>,
+fn set_method<'a, Q: HttpRequest>(
+    made: &mut Made<'a, Q>,
     given: &Given<'a, Q>,
-    set: Set,
     value: &str,
-) -> Result<Set> {
-    let algorithm = algorithm_of(value)?;
-    builder.signature_method(given.key, algorithm);
-    Ok(Set { algorithm, ..set })
+) -> Result<()> {
+    made.algorithm = algorithm_of(value)?;
+    made.builder.signature_method(given.key, made.algorithm);
+    Ok(())
 }
 
 // The setters that take memory.
-fn covered<Q: HttpRequest>(
+fn cover<Q: HttpRequest>(
     builder: &mut HttpSignatureBuilder<'_, Q>,
     word: &str,
     value: &str,
-    set: Set,
-) -> Result<Set> {
+) -> Result<()> {
     match word {
-        "key" => kept(builder.key_id(value), set),
-        "created" => kept(builder.created(number(value)?), set),
-        "expires" => kept(builder.expires(number(value)?), set),
-        "target" => kept(builder.request_target(), set),
-        "name" => kept(builder.http_header(value), set),
+        "key" => done(builder.key_id(value)),
+        "target" => done(builder.request_target()),
+        "name" => done(builder.http_header(value)),
+        _ => set_moment(builder, word, number(value)),
+    }
+}
+
+fn set_moment<Q: HttpRequest>(
+    builder: &mut HttpSignatureBuilder<'_, Q>,
+    word: &str,
+    moment: Result<u64>,
+) -> Result<()> {
+    let moment = moment?;
+    match word {
+        "created" => done(builder.created(moment)),
+        "expires" => done(builder.expires(moment)),
         _ => bail!("no such step"),
     }
 }
 
-fn kept(outcome: Result<(), HttpSignatureError>, set: Set) -> Result<Set> {
-    found(outcome.ok(), "out of memory")?;
-    Ok(set)
+fn done(outcome: Result<(), HttpSignatureError>) -> Result<()> {
+    found(outcome.ok(), "out of memory")
 }
 
 fn number(text: &str) -> Result<u64> {
     found(text.parse::<u64>().ok(), "no such second")
 }
 
-// What `build` gave.
-fn built<Q: HttpRequest>(
+fn build_once<'a, Q: HttpRequest>(
     alloc: Global,
+    made: &mut Made<'a, Q>,
+    given: &Given<'a, Q>,
+) -> Result<()> {
+    let signature = made.builder.build(given.records);
+    let answer = judged(alloc, made, given, &signature);
+    drop(signature);
+    tell(alloc, &mut made.told, answer)
+}
+
+// Writes an answer behind those before it.
+fn tell(alloc: Global, told: &mut String, answer: Result<Answer>) -> Result<()> {
+    let answer = answer?;
+    let text = format!(in alloc; "{answer}");
+    drop(answer);
+    if !told.is_empty() {
+        told.push_str(" | ")?;
+    }
+    told.push_str(&text?)?;
+    Ok(())
+}
+
+// What `build` gave.
+fn judged<Q: HttpRequest>(
+    alloc: Global,
+    made: &Made<'_, Q>,
     given: &Given<'_, Q>,
-    set: Set,
-    signature: Result<HttpSignature, HttpSignatureError>,
+    signature: &Result<HttpSignature, HttpSignatureError>,
 ) -> Result<Answer> {
     match signature {
-        Ok(signature) => judged(alloc, given, set, &signature),
-        Err(error) => Answer::debug(alloc, &error),
+        Ok(signature) => shown(alloc, made, given, signature),
+        Err(error) => Answer::debug(alloc, error),
     }
 }
 
-fn judged<Q: HttpRequest>(
+fn shown<Q: HttpRequest>(
     alloc: Global,
+    made: &Made<'_, Q>,
     given: &Given<'_, Q>,
-    set: Set,
     signature: &HttpSignature,
 ) -> Result<Answer> {
-    let text = reads_back(alloc, signature)?;
-    let verdict = verified(alloc, given, set, signature)?;
-    Answer::pair(alloc, text, verdict)
+    let verdict = verified(alloc, made, given, signature);
+    pair(alloc, ReadBack::show(alloc, signature), verdict)
 }
 
 // What a verifier says of a signature, at the moment of its `created`.
 fn verified<Q: HttpRequest>(
     alloc: Global,
+    made: &Made<'_, Q>,
     given: &Given<'_, Q>,
-    set: Set,
     signature: &HttpSignature,
 ) -> Result<Answer> {
-    let created = signature.created.unwrap_or(0);
-    let verifier = at(verifier_of(given, set, signature), created);
-    match set.is_given {
-        true => decided(alloc, of_string(verifier, given.string), given.records),
-        false => decided(alloc, of_request(verifier, given.request), given.records),
-    }
-}
-
-fn verifier_of<'a, Q: HttpRequest>(
-    given: &Given<'a, Q>,
-    set: Set,
-    signature: &'a HttpSignature,
-) -> HttpSignatureVerifier<'a, Q> {
     let mut verifier = signature.verifier();
-    verifier.signature_method(given.public, set.algorithm);
-    verifier
+    set_up(&mut verifier, made.algorithm, given, signature);
+    set_way(&mut verifier, made.is_given, given);
+    let verdict = verifier.verify(alloc, given.records);
+    drop(verifier);
+    outcome(alloc, verdict)
 }
 
-fn at<Q: HttpRequest>(
-    mut verifier: HttpSignatureVerifier<'_, Q>,
-    moment: u64,
-) -> HttpSignatureVerifier<'_, Q> {
-    verifier.now(moment);
-    verifier
+fn set_up<'a, Q: HttpRequest>(
+    verifier: &mut HttpSignatureVerifier<'a, Q>,
+    algorithm: SignatureAlgorithm,
+    given: &Given<'a, Q>,
+    signature: &HttpSignature,
+) {
+    verifier.signature_method(given.public, algorithm);
+    verifier.now(signature.created.unwrap_or(0));
 }
 
-fn of_string<'a, Q: HttpRequest>(
-    mut verifier: HttpSignatureVerifier<'a, Q>,
-    string: &'a str,
-) -> HttpSignatureVerifier<'a, Q> {
-    verifier.pre_generated_signing_string(string);
-    verifier
-}
-
-fn of_request<'a, Q: HttpRequest>(
-    mut verifier: HttpSignatureVerifier<'a, Q>,
-    request: &'a Q,
-) -> HttpSignatureVerifier<'a, Q> {
-    verifier.generate_signing_string_using_http_request(request);
-    verifier
-}
-
-fn decided<Q: HttpRequest>(
-    alloc: Global,
-    mut verifier: HttpSignatureVerifier<'_, Q>,
-    records: &Recorded,
-) -> Result<Answer> {
-    verdict(alloc, verifier.verify(alloc, records))
-}
-
-fn verdict(alloc: Global, verdict: Result<(), HttpSignatureError>) -> Result<Answer> {
-    match verdict {
-        Ok(()) => Ok(Answer::Word("Ok")),
-        Err(error) => Answer::debug(alloc, &error),
+fn set_way<'a, Q: HttpRequest>(
+    verifier: &mut HttpSignatureVerifier<'a, Q>,
+    is_given: bool,
+    given: &Given<'a, Q>,
+) {
+    match is_given {
+        true => verifier.pre_generated_signing_string(given.string),
+        false => verifier.generate_signing_string_using_http_request(given.request),
     }
 }

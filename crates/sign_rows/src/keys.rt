@@ -1,14 +1,10 @@
 // Private keys, in PKCS #8, and the records of what they sign.
-use anyhow::{Context, Result};
+use crate::shown::found;
+use anyhow::Result;
 use picky_key::{KeyProvider, PrivateKey, PublicKey};
 use picky_records::Recorded;
 use rows::Words;
 use std::alloc::Global;
-
-// The value, or what is missing.
-pub(crate) fn found<T: Drop>(value: Option<T>, missing: &'static str) -> Result<T> {
-    value.context(missing)
-}
 
 // The key of the next word.
 pub(crate) fn private_of(alloc: Global, words: &mut Words<'_>) -> Result<PrivateKey> {

@@ -1,9 +1,12 @@
-//! Answers rows that name the calls which make signed tokens and HTTP signatures.
+//! Answers rows that name the calls which make signed tokens, and make and verify HTTP signatures.
 #![tactic(auto)]
 
 mod builders;
+mod header_texts;
 mod keys;
 mod printed;
+mod requests;
+mod shown;
 mod tokens;
 
 use anyhow::{Result, bail};
@@ -16,8 +19,9 @@ struct SigningCalls;
 impl Calls for SigningCalls {
     fn answer(alloc: Global, notion: &str, call: &str, words: &mut Words<'_>) -> Result<Answer> {
         match notion {
-            "token" => tokens::answer(alloc, call, words),
-            "claims" => tokens::answer_of_claims(alloc, call, words),
+            "token" | "claims" => tokens::answer(alloc, call, words),
+            "http" => header_texts::answer(alloc, call, words),
+            "request" => requests::answer(alloc, call, words),
             "build" => builders::answer(alloc, call, words),
             "print" => printed::answer(alloc, call, words),
             _ => bail!("no such notion"),

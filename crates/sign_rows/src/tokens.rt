@@ -9,17 +9,75 @@
 //     claims.with_cty PKCS8 HEADER CLAIMS RECORDS            the same of `new_with_cty`, with its `cty`
 //     claims.with_header PKCS8 HEADER CLAIMS RECORDS         the same of `Jwt::new_with_header`, with the header as it is
 //     claims.deeper PKCS8 HEADER CLAIMS RECORDS              the same of claims that are a list of CLAIMS
-use crate::keys::{found, private_of, records_of};
+use crate::keys::{private_of, records_of};
+use crate::shown::{Text, both, found, kept, told};
 use anyhow::{Result, bail};
-use picky_jose::{CheckedJwtSig, Jws, JwsAlg, JwsHeader, Jwt, JwtSig};
+use picky_jose::{CheckedJwtSig, Jws, JwsHeader, Jwt, JwtSig};
 use picky_json::parse;
 use picky_key::PrivateKey;
 use picky_records::Recorded;
 use rows::{Answer, Words};
 use serde_json::Value;
 use std::alloc::Global;
-use std::fmt;
 use std::mem::swap;
+
+// What a provider signs, as a token.
+trait Encodes {
+    fn encoded(self, alloc: Global, records: &Recorded, key: &PrivateKey) -> Result<Answer>;
+}
+
+impl Encodes for Jws {
+    fn encoded(self, alloc: Global, records: &Recorded, key: &PrivateKey) -> Result<Answer> {
+        let text = self.encode(alloc, records, key);
+        drop(self);
+        told::<Text, _, _>(alloc, text)
+    }
+}
+
+impl Encodes for JwtSig {
+    fn encoded(self, alloc: Global, records: &Recorded, key: &PrivateKey) -> Result<Answer> {
+        told::<Text, _, _>(alloc, self.encode(alloc, records, key))
+    }
+}
+
+impl Encodes for CheckedJwtSig<Value> {
+    fn encoded(self, alloc: Global, records: &Recorded, key: &PrivateKey) -> Result<Answer> {
+        told::<Text, _, _>(alloc, self.encode(alloc, records, key))
+    }
+}
+
+pub(crate) fn answer(alloc: Global, call: &str, words: &mut Words<'_>) -> Result<Answer> {
+    let key = private_of(alloc, words)?;
+    let answer = under(alloc, call, &key, words);
+    drop(key);
+    answer
+}
+
+fn under(alloc: Global, call: &str, key: &PrivateKey, words: &mut Words<'_>) -> Result<Answer> {
+    match call {
+        "jws" => signed(alloc, token_of(alloc, words), key, words),
+        "jwt" => signed(alloc, jwt_of(alloc, words), key, words),
+        "new" => signed(alloc, plain(alloc, words), key, words),
+        "with_cty" => signed(alloc, typed(alloc, words), key, words),
+        "with_header" => signed(alloc, with_header(alloc, words), key, words),
+        "deeper" => signed(alloc, deeper(alloc, words), key, words),
+        _ => bail!("no such call"),
+    }
+}
+
+// The token, signed by the provider of the rest of the words.
+fn signed<T: Encodes + Drop>(
+    alloc: Global,
+    token: Result<T>,
+    key: &PrivateKey,
+    words: &mut Words<'_>,
+) -> Result<Answer> {
+    let token = token?;
+    let records = records_of(alloc, words)?;
+    let answer = token.encoded(alloc, &records, key);
+    drop(records);
+    answer
+}
 
 fn tree_of(alloc: Global, words: &mut Words<'_>) -> Result<Value> {
     let tree = parse(alloc, words.next().as_bytes());
@@ -28,152 +86,97 @@ fn tree_of(alloc: Global, words: &mut Words<'_>) -> Result<Value> {
 
 fn header_of(alloc: Global, words: &mut Words<'_>) -> Result<JwsHeader> {
     let tree = tree_of(alloc, words)?;
-    found(JwsHeader::from_tree(alloc, &tree).ok(), "no header")
+    let header = JwsHeader::from_tree(alloc, &tree).ok();
+    drop(tree);
+    found(header, "no header")
 }
 
 // The header of the next three words.
 fn wider_header_of(alloc: Global, words: &mut Words<'_>) -> Result<JwsHeader> {
     let mut header = header_of(alloc, words)?;
-    let name = words.next();
-    let value = tree_of(alloc, words)?;
-    if name != "-" {
-        widen(alloc, &mut header, name, value)?;
-    }
-    Ok(header)
+    let outcome = widen(alloc, &mut header, words);
+    kept(outcome, header)
 }
 
-fn widen(alloc: Global, header: &mut JwsHeader, name: &str, value: Value) -> Result<()> {
+fn widen(alloc: Global, header: &mut JwsHeader, words: &mut Words<'_>) -> Result<()> {
+    match words.next() {
+        "-" => none_of(alloc, words),
+        name => add(alloc, header, name, words),
+    }
+}
+
+fn none_of(alloc: Global, words: &mut Words<'_>) -> Result<()> {
+    drop(tree_of(alloc, words)?);
+    Ok(())
+}
+
+fn add(alloc: Global, header: &mut JwsHeader, name: &str, words: &mut Words<'_>) -> Result<()> {
+    let value = tree_of(alloc, words)?;
     let name = String::from_str(alloc, name)?;
     drop(header.additional.insert(name, value)?);
     Ok(())
 }
 
-fn told<E: fmt::Debug + Drop>(alloc: Global, token: Result<String, E>) -> Result<Answer> {
-    match token {
-        Ok(text) => Ok(Answer::Text(text)),
-        Err(error) => Answer::debug(alloc, &error),
-    }
-}
-
-pub(crate) fn answer(alloc: Global, call: &str, words: &mut Words<'_>) -> Result<Answer> {
-    match call {
-        "jws" => jws(alloc, words),
-        "jwt" => jwt(alloc, words),
-        _ => bail!("no such call"),
-    }
-}
-
-fn jws(alloc: Global, words: &mut Words<'_>) -> Result<Answer> {
-    let key = private_of(alloc, words)?;
-    let token = token_of(alloc, words)?;
-    let records = records_of(alloc, words)?;
-    signed(alloc, &token, &records, &key)
-}
-
-fn jwt(alloc: Global, words: &mut Words<'_>) -> Result<Answer> {
-    let key = private_of(alloc, words)?;
-    let token = token_of(alloc, words)?;
-    let records = records_of(alloc, words)?;
-    signed_jwt(alloc, token, &records, &key)
-}
-
 fn token_of(alloc: Global, words: &mut Words<'_>) -> Result<Jws> {
-    let header = wider_header_of(alloc, words)?;
-    let payload = words.bytes(alloc)?;
+    let header = wider_header_of(alloc, words);
+    let (header, payload) = both(header, words.bytes(alloc))?;
     Ok(token_with(alloc, header, payload))
 }
 
-fn token_with(alloc: Global, header: JwsHeader, payload: Vec<u8>) -> Jws {
+fn token_with(alloc: Global, mut header: JwsHeader, payload: Vec<u8>) -> Jws {
     let mut token = Jws::new(alloc, header.alg, payload);
-    token.header = header;
+    swap(&mut token.header, &mut header);
+    drop(header);
     token
 }
 
-fn signed(alloc: Global, token: &Jws, records: &Recorded, key: &PrivateKey) -> Result<Answer> {
-    told(alloc, token.encode(alloc, records, key))
+fn jwt_of(alloc: Global, words: &mut Words<'_>) -> Result<JwtSig> {
+    Ok(JwtSig::from(token_of(alloc, words)?))
 }
 
-fn signed_jwt(alloc: Global, token: Jws, records: &Recorded, key: &PrivateKey) -> Result<Answer> {
-    told(alloc, JwtSig::from(token).encode(alloc, records, key))
-}
-
-pub(crate) fn answer_of_claims(alloc: Global, call: &str, words: &mut Words<'_>) -> Result<Answer> {
-    let key = private_of(alloc, words)?;
-    let token = claims_of(alloc, call, words)?;
-    let records = records_of(alloc, words)?;
-    signed_claims(alloc, token, &records, &key)
-}
-
-fn signed_claims(
-    alloc: Global,
-    token: CheckedJwtSig<Value>,
-    records: &Recorded,
-    key: &PrivateKey,
-) -> Result<Answer> {
-    told(alloc, token.encode(alloc, records, key))
-}
-
-// The token of the header and the claims of the next two words.
-fn claims_of(alloc: Global, call: &str, words: &mut Words<'_>) -> Result<CheckedJwtSig<Value>> {
-    match call {
-        "new" => plain(alloc, words),
-        "with_cty" => typed(alloc, words),
-        "with_header" => with_header(alloc, words),
-        "deeper" => deeper(alloc, words),
-        _ => bail!("no such call"),
-    }
+// The header and the claims of the next two words.
+fn header_and_claims(alloc: Global, words: &mut Words<'_>) -> Result<(JwsHeader, Value)> {
+    let header = header_of(alloc, words);
+    both(header, tree_of(alloc, words))
 }
 
 fn plain(alloc: Global, words: &mut Words<'_>) -> Result<CheckedJwtSig<Value>> {
-    let header = header_of(alloc, words)?;
-    named(new_token(alloc, header.alg, words), header)
-}
-
-fn new_token(alloc: Global, alg: JwsAlg, words: &mut Words<'_>) -> Result<CheckedJwtSig<Value>> {
-    let claims = tree_of(alloc, words)?;
-    found(CheckedJwtSig::new(alloc, alg, claims).ok(), "no memory")
+    let (header, claims) = header_and_claims(alloc, words)?;
+    let token = CheckedJwtSig::new(alloc, header.alg, claims).ok();
+    named(token, header)
 }
 
 fn typed(alloc: Global, words: &mut Words<'_>) -> Result<CheckedJwtSig<Value>> {
-    let header = header_of(alloc, words)?;
+    let (header, claims) = header_and_claims(alloc, words)?;
     let cty = header.cty.as_deref().unwrap_or("");
-    named(typed_token(alloc, header.alg, cty, words), header)
-}
-
-fn typed_token(
-    alloc: Global,
-    alg: JwsAlg,
-    cty: &str,
-    words: &mut Words<'_>,
-) -> Result<CheckedJwtSig<Value>> {
-    let claims = tree_of(alloc, words)?;
-    let token = CheckedJwtSig::new_with_cty(alloc, alg, cty, claims);
-    found(token.ok(), "no memory")
+    let token = CheckedJwtSig::new_with_cty(alloc, header.alg, cty, claims).ok();
+    named(token, header)
 }
 
 // The token with the key's name that a header has.
 fn named(
-    token: Result<CheckedJwtSig<Value>>,
+    mut token: Option<CheckedJwtSig<Value>>,
     mut header: JwsHeader,
 ) -> Result<CheckedJwtSig<Value>> {
-    let mut token = token?;
-    exchange_names(&mut token.header, &mut header);
-    Ok(token)
+    exchange_names(token.as_mut(), &mut header);
+    drop(header);
+    found(token, "no memory")
 }
 
-fn exchange_names(first: &mut JwsHeader, second: &mut JwsHeader) {
-    swap(&mut first.kid, &mut second.kid);
+fn exchange_names(token: Option<&mut CheckedJwtSig<Value>>, header: &mut JwsHeader) {
+    if let Some(token) = token {
+        swap(&mut token.header.kid, &mut header.kid);
+    }
 }
 
 fn with_header(alloc: Global, words: &mut Words<'_>) -> Result<CheckedJwtSig<Value>> {
-    let header = header_of(alloc, words)?;
-    let claims = tree_of(alloc, words)?;
+    let (header, claims) = header_and_claims(alloc, words)?;
     Ok(Jwt::new_with_header(header, claims))
 }
 
 fn deeper(alloc: Global, words: &mut Words<'_>) -> Result<CheckedJwtSig<Value>> {
-    let header = header_of(alloc, words)?;
-    let claims = list_of(alloc, words)?;
+    let header = header_of(alloc, words);
+    let (header, claims) = both(header, list_of(alloc, words))?;
     Ok(Jwt::new_with_header(header, claims))
 }
 

@@ -2,7 +2,7 @@
 //
 //     base64.encode FORM BYTES     the text, `-` for an empty one
 //     base64.decode FORM TEXT      the bytes, or `none`
-use crate::found::found;
+use crate::shown::found;
 use anyhow::{Result, bail};
 use picky_base64::Form;
 use rows::{Answer, Words};

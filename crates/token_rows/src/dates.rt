@@ -11,7 +11,7 @@
 //                                                `strict`, `lenient`, `nbf` (that alone required), `exp` (that alone looked at), at 100
 //     jwt.check_by CHECKS CLAIMS                 the same of claims that were read already
 //     jwt.decode KEY TEXT RECORDS                `Ok`, where the signature holds by a provider of these records, or the refusal
-use crate::found::{found, outcome, shown};
+use crate::shown::{found, outcome, printed};
 use crate::signatures;
 use anyhow::{Result, bail};
 use picky_jose::{Jws, JwsAlg, JwsHeader, JwtDate, JwtSig, JwtValidator, no_check_validator};
@@ -34,8 +34,8 @@ pub(crate) fn date(words: &mut Words<'_>) -> Result<JwtDate> {
 
 pub(crate) fn answer_of_date(alloc: Global, call: &str, words: &mut Words<'_>) -> Result<Answer> {
     match call {
-        "print" => shown(alloc, date(words)),
-        "print_new" => shown(alloc, new_date(words)),
+        "print" => printed(alloc, date(words)),
+        "print_new" => printed(alloc, new_date(words)),
         _ => compared(call, words),
     }
 }
@@ -62,7 +62,7 @@ pub(crate) fn answer(alloc: Global, call: &str, words: &mut Words<'_>) -> Result
         "validate" => validate(alloc, words),
         "validate_by" => validate_by(alloc, words),
         "check_by" => check_by(alloc, words),
-        "decode" => signatures::signed_claims(alloc, words),
+        "decode" => signatures::answer(alloc, call, "", words),
         _ => bail!("no such call"),
     }
 }

@@ -4,7 +4,7 @@
 //                           `none` where it has no tree
 //     json.nested DEPTH     `tree` or `none`, of so many lists in one another
 //     json.quote LINES      the text as JSON
-use crate::found::found;
+use crate::shown::found;
 use anyhow::{Result, bail};
 use picky_json::{compact, has_float, json_text_of, parse};
 use rows::{Answer, Words};

@@ -3,7 +3,7 @@
 //     key.ed BYTES             `Ok`, or the refusal
 //     key.equals KEY KEY       whether both are equal
 //     key.copy_equals KEY      whether a copy is equal to it
-use crate::found::{found, outcome};
+use crate::shown::{both, found, outcome};
 use anyhow::{Result, bail};
 use picky_key::{EdAlgorithm, PublicKey};
 use rows::{Answer, Words};
@@ -32,13 +32,22 @@ fn ed(alloc: Global, words: &mut Words<'_>) -> Result<Answer> {
 }
 
 fn equals(alloc: Global, words: &mut Words<'_>) -> Result<Answer> {
-    let left = key(alloc, words)?;
-    let right = key(alloc, words)?;
-    Ok(Answer::Truth(left == right))
+    let left = key(alloc, words);
+    let (left, right) = both(left, key(alloc, words))?;
+    Ok(compared(left, right))
 }
 
 fn copy_equals(alloc: Global, words: &mut Words<'_>) -> Result<Answer> {
     let key = key(alloc, words)?;
-    let copy = found(key.clone(alloc).ok(), "no memory")?;
-    Ok(Answer::Truth(copy == key))
+    let copy = found(key.clone(alloc).ok(), "no memory");
+    let (copy, key) = both(copy, Ok(key))?;
+    Ok(compared(copy, key))
+}
+
+// Whether both are equal.
+fn compared(left: PublicKey, right: PublicKey) -> Answer {
+    let equal = left == right;
+    drop(left);
+    drop(right);
+    Answer::Truth(equal)
 }

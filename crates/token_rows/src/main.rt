@@ -1,16 +1,14 @@
-//! Answers rows that name the calls of base64, JSON, keys, signed tokens and HTTP signatures.
+//! Answers rows that name the calls of base64, JSON, keys, records and signed tokens.
 #![tactic(auto)]
 
 mod base64;
 mod dates;
-mod found;
-mod header_texts;
 mod json;
 mod keys;
 mod messages;
 mod pairs;
 mod records;
-mod requests;
+mod shown;
 mod signatures;
 mod tokens;
 
@@ -31,8 +29,6 @@ impl Calls for TokenCalls {
             "jws" => tokens::answer(alloc, call, words),
             "jwt" => dates::answer(alloc, call, words),
             "date" => dates::answer_of_date(alloc, call, words),
-            "http" => header_texts::answer(alloc, call, words),
-            "request" => requests::answer(alloc, call, words),
             "message" => messages::answer(alloc, call, words),
             _ => bail!("no such call"),
         }

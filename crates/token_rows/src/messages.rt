@@ -8,7 +8,7 @@
 //     message.jwt Jws JWS.. | Json | InvalidRegisteredClaimType CLAIM | RequiredClaimMissing CLAIM
 //         | NotYetValid NBF SECONDS LEEWAY | Expired EXP SECONDS LEEWAY | InvalidValidator | Float | OutOfMemory
 use crate::dates::{date, seconds};
-use crate::found::shown;
+use crate::shown::printed;
 use anyhow::{Result, bail};
 use picky_jose::{JwsError, JwtError};
 use picky_jwk::JwkError;
@@ -19,12 +19,12 @@ use std::alloc::Global;
 
 pub(crate) fn answer(alloc: Global, call: &str, words: &mut Words<'_>) -> Result<Answer> {
     match call {
-        "key" => shown(alloc, key(words)),
-        "signature" => shown(alloc, signature(words)),
-        "records" => shown(alloc, records(words)),
-        "jwk" => shown(alloc, jwk(words.next())),
-        "jws" => shown(alloc, jws(alloc, words)),
-        "jwt" => shown(alloc, jwt(alloc, words)),
+        "key" => printed(alloc, key(words)),
+        "signature" => printed(alloc, signature(words)),
+        "records" => printed(alloc, records(words)),
+        "jwk" => printed(alloc, jwk(words.next())),
+        "jws" => printed(alloc, jws(alloc, words)),
+        "jwt" => printed(alloc, jwt(alloc, words)),
         _ => bail!("no such call"),
     }
 }

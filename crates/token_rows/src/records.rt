@@ -2,10 +2,10 @@
 //
 //     records.read RECORDS                                    `Ok`, or the refusal
 //     records.verify KEY ALGORITHM MESSAGE BYTES RECORDS      whether they record it; MESSAGE is a word as it stands
-use crate::found::{found, outcome};
 use crate::keys::key;
+use crate::shown::{found, outcome};
 use anyhow::{Result, bail};
-use picky_key::{HashAlgorithm, KeyProvider, SignatureAlgorithm};
+use picky_key::{HashAlgorithm, KeyProvider, PublicKey, SignatureAlgorithm};
 use picky_records::Recorded;
 use rows::{Answer, Words};
 use std::alloc::Global;
@@ -39,12 +39,19 @@ fn read(alloc: Global, words: &mut Words<'_>) -> Result<Answer> {
 
 fn verify(alloc: Global, words: &mut Words<'_>) -> Result<Answer> {
     let key = key(alloc, words)?;
+    let answer = holds(alloc, &key, words);
+    drop(key);
+    answer
+}
+
+fn holds(alloc: Global, key: &PublicKey, words: &mut Words<'_>) -> Result<Answer> {
     let algorithm = algorithm(words.next())?;
     let message = words.next().as_bytes();
     let signature = words.bytes(alloc)?;
     let records = records(alloc, words)?;
     let holds = records
-        .verify(alloc, &key, algorithm, message, &signature)
+        .verify(alloc, key, algorithm, message, &signature)
         .ok();
+    drop(records);
     Ok(Answer::Truth(found(holds, "no memory")?))
 }

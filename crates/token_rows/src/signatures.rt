@@ -1,17 +1,20 @@
 // Tokens that are verified, by the text and the name that they are given.
-use crate::found::{found, outcome};
 use crate::keys::key;
 use crate::records::records;
+use crate::shown::{Shows, both, found, outcome, told};
 use anyhow::{Result, bail};
-use picky_jose::{Jws, JwsAlg, JwsError, JwsHeader, JwtSig, RawJws, verify_signature};
+use picky_jose::{Jws, JwsAlg, JwsHeader, JwtSig, RawJws, verify_signature};
+use picky_key::PublicKey;
+use picky_records::Recorded;
 use rows::{Answer, Words};
 use std::alloc::Global;
 use std::borrow::CowStr;
+use std::mem::swap;
 
 // A token that is read, whose text and name are then those of the row.
 const TOKEN: &str = "eyJhbGciOiJFZERTQSIsImtpZCI6ImsxIn0.eyJleHAiOjEwMH0.AAAA";
 
-pub(crate) fn algorithm(name: &str) -> Result<JwsAlg> {
+fn algorithm(name: &str) -> Result<JwsAlg> {
     match name {
         "HS256" => Ok(JwsAlg::HS256),
         "RS256" => Ok(JwsAlg::RS256),
@@ -24,50 +27,86 @@ pub(crate) fn algorithm(name: &str) -> Result<JwsAlg> {
     }
 }
 
-pub(crate) fn token<'a>(alloc: Global, alg: JwsAlg, text: &'a str) -> Result<RawJws<'a>> {
+fn token<'a>(alloc: Global, alg: JwsAlg, text: &'a str) -> Result<RawJws<'a>> {
     let token = RawJws::decode(alloc, CowStr::Borrowed(TOKEN)).ok();
     let mut token = found(token, "no token")?;
-    token.compact_repr = CowStr::Borrowed(text);
-    token.header = JwsHeader::new(alloc, alg);
+    set_header(&mut token, JwsHeader::new(alloc, alg));
+    set_text(&mut token, CowStr::Borrowed(text));
     Ok(token)
 }
 
-pub(crate) fn verify(alloc: Global, words: &mut Words<'_>) -> Result<Answer> {
-    let alg = algorithm(words.next())?;
-    let key = key(alloc, words)?;
-    let token = token(alloc, alg, words.next())?;
-    let records = records(alloc, words)?;
-    outcome(alloc, token.verify(alloc, &records, &key))
+fn set_header(token: &mut RawJws<'_>, mut header: JwsHeader) {
+    swap(&mut token.header, &mut header);
+    drop(header);
+}
+
+fn set_text<'a>(token: &mut RawJws<'a>, mut text: CowStr<'a>) {
+    swap(&mut token.compact_repr, &mut text);
+    drop(text);
+}
+
+// Any text under any name.
+pub(crate) fn verify(
+    alloc: Global,
+    alg: &str,
+    text: &str,
+    key: &PublicKey,
+    records: &Recorded,
+) -> Result<Answer> {
+    let token = token(alloc, algorithm(alg)?, text)?;
+    outcome(alloc, token.verify(alloc, records, key))
 }
 
 // The same of the text alone.
-pub(crate) fn verify_text(alloc: Global, words: &mut Words<'_>) -> Result<Answer> {
-    let alg = algorithm(words.next())?;
-    let key = key(alloc, words)?;
-    let text = words.next();
-    let records = records(alloc, words)?;
-    outcome(alloc, verify_signature(alloc, text, &records, &key, alg))
+fn verify_text(
+    alloc: Global,
+    alg: &str,
+    text: &str,
+    key: &PublicKey,
+    records: &Recorded,
+) -> Result<Answer> {
+    let alg = algorithm(alg)?;
+    outcome(alloc, verify_signature(alloc, text, records, key, alg))
 }
 
-// The payload of a token whose signature holds.
-pub(crate) fn verified(alloc: Global, words: &mut Words<'_>) -> Result<Answer> {
-    let key = key(alloc, words)?;
-    let text = words.next();
-    let records = records(alloc, words)?;
-    payload(alloc, Jws::decode(alloc, text, &records, &key))
-}
+// The payload of a token.
+struct Payload;
 
-fn payload(alloc: Global, token: Result<Jws, JwsError>) -> Result<Answer> {
-    match token {
-        Ok(token) => Answer::bytes(alloc, &token.payload),
-        Err(error) => Answer::debug(alloc, &error),
+impl Shows<Jws> for Payload {
+    fn show(alloc: Global, token: &Jws) -> Result<Answer> {
+        Answer::bytes(alloc, &token.payload)
     }
 }
 
-// Whether a token with claims is one whose signature holds.
-pub(crate) fn signed_claims(alloc: Global, words: &mut Words<'_>) -> Result<Answer> {
-    let key = key(alloc, words)?;
+// The answer of a call over a key, a text and records. The name of an algorithm stands before them for `verify` and `verify_text`.
+pub(crate) fn answer(
+    alloc: Global,
+    call: &str,
+    alg: &str,
+    words: &mut Words<'_>,
+) -> Result<Answer> {
+    let key = key(alloc, words);
     let text = words.next();
-    let records = records(alloc, words)?;
-    outcome(alloc, JwtSig::decode(alloc, text, &records, &key))
+    let (key, records) = both(key, records(alloc, words))?;
+    let answer = judged(alloc, call, alg, text, &key, &records);
+    drop(key);
+    drop(records);
+    answer
+}
+
+fn judged(
+    alloc: Global,
+    call: &str,
+    alg: &str,
+    text: &str,
+    key: &PublicKey,
+    records: &Recorded,
+) -> Result<Answer> {
+    match call {
+        "verify" => verify(alloc, alg, text, key, records),
+        "verify_text" => verify_text(alloc, alg, text, key, records),
+        "verified" => told::<Payload, _, _>(alloc, Jws::decode(alloc, text, records, key)),
+        "decode" => outcome(alloc, JwtSig::decode(alloc, text, records, key)),
+        _ => bail!("no such call"),
+    }
 }

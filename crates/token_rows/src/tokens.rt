@@ -10,7 +10,7 @@
 //     jws.verify ALG KEY TEXT RECORDS        `Ok`; any text under any name, by a provider of these records
 //     jws.verify_text ALG KEY TEXT RECORDS   the same by `verify_signature`, of the text alone
 //     jws.verify_p256 ALG TEXT BYTES         `Ok`; under a P-256 key, by a provider of this one ECDSA signature with SHA-256
-use crate::found::found;
+use crate::shown::{Shows, found, told};
 use crate::{pairs, signatures};
 use anyhow::{Result, bail};
 use picky_jose::{JwsError, RawJws};
@@ -20,40 +20,43 @@ use std::borrow::CowStr;
 
 pub(crate) fn answer(alloc: Global, call: &str, words: &mut Words<'_>) -> Result<Answer> {
     match call {
-        "verified" => signatures::verified(alloc, words),
-        "verify" => signatures::verify(alloc, words),
-        "verify_text" => signatures::verify_text(alloc, words),
+        "verified" => signatures::answer(alloc, call, "", words),
+        "verify" | "verify_text" => signatures::answer(alloc, call, words.next(), words),
         "verify_p256" => pairs::verify(alloc, words),
-        "decode" | "payload" | "alg" | "kid" | "copy" => read(alloc, call, words.rest()),
         "unsigned" => unsigned(alloc, words.rest()),
-        _ => bail!("no such call"),
+        _ => read(alloc, call, words.rest()),
     }
 }
 
 fn read(alloc: Global, call: &str, text: &str) -> Result<Answer> {
-    told(alloc, call, RawJws::decode(alloc, CowStr::Borrowed(text)))
+    let token = RawJws::decode(alloc, CowStr::Borrowed(text));
+    let answer = seen(alloc, call, &token);
+    drop(token);
+    answer
 }
 
-fn told(alloc: Global, call: &str, token: Result<RawJws<'_>, JwsError>) -> Result<Answer> {
+fn seen(alloc: Global, call: &str, token: &Result<RawJws<'_>, JwsError>) -> Result<Answer> {
     match token {
-        Ok(token) => seen(alloc, call, &token),
-        Err(error) => Answer::debug(alloc, &error),
+        Ok(token) => asked(alloc, call, token),
+        Err(error) => Answer::debug(alloc, error),
     }
 }
 
 fn unsigned(alloc: Global, text: &str) -> Result<Answer> {
     let token = RawJws::decode(alloc, CowStr::Borrowed(text)).ok();
     let token = found(token, "no token")?.discard_signature();
-    Answer::bytes(alloc, &token.payload)
+    let answer = Answer::bytes(alloc, &token.payload);
+    drop(token);
+    answer
 }
 
-fn seen(alloc: Global, call: &str, token: &RawJws<'_>) -> Result<Answer> {
+fn asked(alloc: Global, call: &str, token: &RawJws<'_>) -> Result<Answer> {
     match call {
         "decode" => Ok(Answer::Word("Ok")),
         "payload" => Answer::bytes(alloc, token.peek_payload()),
         "alg" => Answer::text(alloc, token.header.alg.name()),
         "kid" => kid(alloc, token),
-        "copy" => copy(alloc, token),
+        "copy" => told::<Repr, _, _>(alloc, token.clone(alloc)),
         _ => bail!("no such call"),
     }
 }
@@ -65,7 +68,11 @@ fn kid(alloc: Global, token: &RawJws<'_>) -> Result<Answer> {
     }
 }
 
-fn copy(alloc: Global, token: &RawJws<'_>) -> Result<Answer> {
-    let copy = found(token.clone(alloc).ok(), "no memory")?;
-    Answer::text(alloc, copy.compact_repr.as_str())
+// The text of a token.
+struct Repr;
+
+impl Shows<RawJws<'static>> for Repr {
+    fn show(alloc: Global, token: &RawJws<'static>) -> Result<Answer> {
+        Answer::text(alloc, token.compact_repr.as_str())
+    }
 }

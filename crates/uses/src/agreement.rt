@@ -1,6 +1,7 @@
 // Two sides who agree on a secret.
 ghost use Rattle.std.specs.Prelude.{◌≡◌, Some, IsTrue, IfOk};
 
+use picky_contract::equal_bytes;
 use picky_key::{Ephemeral, KeyProvider, PrivateKey, ProviderFault};
 use picky_records::Recorded;
 use std::alloc::Global;
@@ -16,7 +17,7 @@ fn is_agreed<P: KeyProvider>(
     ensures { IfOk result (λ same. IsTrue same) }
 {
     match provider.agree(alloc, key, &sent.epk)? {
-        Some(secret) => Ok(secret.as_slice() == sent.secret.as_slice()),
+        Some(secret) => Ok(equal_bytes(&secret, &sent.secret)),
         None => Ok(false),
     }
 }

@@ -20,7 +20,7 @@
 //     bits.copy BITS
 //     bits.eq BITS BITS
 //     bits.debug BITS                           what `{:?}` prints
-use super::bad_row;
+use crate::bad_row;
 use anyhow::Result;
 use picky_asn1::CopyIn;
 use picky_asn1::bit_string::BitString;
@@ -32,8 +32,8 @@ pub(crate) fn answer(alloc: Global, call: &str, words: &mut Words<'_>) -> Result
         "with_len" => with_len(alloc, words),
         "with_bytes" => with_bytes(alloc, words),
         "with_bytes_and_len" => with_bytes_and_len(alloc, words),
-        "payload_view_mut" => payload_view_mut(alloc, words),
-        "into_vec" => into_vec(alloc, words),
+        "payload_view_mut" => Answer::bytes(alloc, bits(alloc, words)?.payload_view_mut()),
+        "into_vec" => Answer::bytes(alloc, &Vec::from(bits(alloc, words)?)),
         "set" | "set_num_bits" | "payload_fill" => changed(alloc, call, words),
         "set_bucket" | "get_bucket_mut" | "payload_write" => changed(alloc, call, words),
         _ => of_bits(alloc, call, words),
@@ -65,28 +65,14 @@ fn of_payload(alloc: Global, payload: Vec<u8>, count: usize) -> Result<BitString
 }
 
 // The bit string of these contents.
-fn of_contents(alloc: Global, contents: Vec<u8>) -> Result<BitString> {
-    let mut payload = contents;
+fn bits(alloc: Global, words: &mut Words<'_>) -> Result<BitString> {
+    let mut payload = words.bytes(alloc)?;
     if payload.is_empty() {
         return bad_row("a count of unused bits is missing");
     }
     let unused = usize::from(payload.remove(0));
     let count = payload.len().saturating_mul(8).saturating_sub(unused);
     of_payload(alloc, payload, count)
-}
-
-fn bits(alloc: Global, words: &mut Words<'_>) -> Result<BitString> {
-    of_contents(alloc, words.bytes(alloc)?)
-}
-
-fn payload_view_mut(alloc: Global, words: &mut Words<'_>) -> Result<Answer> {
-    let mut bits = bits(alloc, words)?;
-    Answer::bytes(alloc, bits.payload_view_mut())
-}
-
-fn into_vec(alloc: Global, words: &mut Words<'_>) -> Result<Answer> {
-    let payload: Vec<u8> = Vec::from(bits(alloc, words)?);
-    Answer::bytes(alloc, &payload)
 }
 
 fn changed(alloc: Global, call: &str, words: &mut Words<'_>) -> Result<Answer> {
@@ -98,7 +84,7 @@ fn changed(alloc: Global, call: &str, words: &mut Words<'_>) -> Result<Answer> {
 fn change(call: &str, bits: &mut BitString, words: &mut Words<'_>) -> Result<()> {
     match call {
         "set" => set(bits, words),
-        "set_num_bits" => set_num_bits(bits, words),
+        "set_num_bits" => Ok(bits.set_num_bits(words.size()?)?),
         "payload_fill" => payload_fill(bits, words),
         _ => write(call, bits, words),
     }
@@ -107,11 +93,6 @@ fn change(call: &str, bits: &mut BitString, words: &mut Words<'_>) -> Result<()>
 fn set(bits: &mut BitString, words: &mut Words<'_>) -> Result<()> {
     let index = words.size()?;
     bits.set(index, words.truth()?);
-    Ok(())
-}
-
-fn set_num_bits(bits: &mut BitString, words: &mut Words<'_>) -> Result<()> {
-    bits.set_num_bits(words.size()?)?;
     Ok(())
 }
 
@@ -147,16 +128,12 @@ fn seen(alloc: Global, call: &str, bits: &BitString, words: &mut Words<'_>) -> R
         "get_num_unused_bits" => Ok(Answer::Size(usize::from(bits.get_num_unused_bits()))),
         "get_num_buckets" => Ok(Answer::Size(bits.get_num_buckets())),
         "debug" => Answer::debug(alloc, bits),
-        "copy" => copied(alloc, bits),
+        "copy" => Answer::bytes(alloc, bits.copy_in(alloc)?.as_bytes()),
         "get_bucket" => get_bucket(bits, words),
-        "is_set" => is_set(bits, words),
+        "is_set" => Ok(Answer::Truth(bits.is_set(words.size()?))),
         "eq" => eq(alloc, bits, words),
         _ => bad_row("no such call"),
     }
-}
-
-fn copied(alloc: Global, bits: &BitString) -> Result<Answer> {
-    Answer::bytes(alloc, bits.copy_in(alloc)?.as_bytes())
 }
 
 fn get_bucket(bits: &BitString, words: &mut Words<'_>) -> Result<Answer> {
@@ -165,10 +142,6 @@ fn get_bucket(bits: &BitString, words: &mut Words<'_>) -> Result<Answer> {
         return bad_row("no such byte");
     }
     Ok(Answer::Byte(bits.get_bucket(index)))
-}
-
-fn is_set(bits: &BitString, words: &mut Words<'_>) -> Result<Answer> {
-    Ok(Answer::Truth(bits.is_set(words.size()?)))
 }
 
 fn eq(alloc: Global, one: &BitString, words: &mut Words<'_>) -> Result<Answer> {

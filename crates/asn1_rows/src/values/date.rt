@@ -9,7 +9,7 @@
 //     date.eq FORM DATE DATE
 //     date.gt FORM DATE DATE
 //     date.error NAME                   what `{}` prints of a refusal
-use super::bad_row;
+use crate::bad_row;
 use anyhow::Result;
 use jiff::civil::DateTime;
 use picky_asn1::CopyIn;
@@ -18,9 +18,11 @@ use rows::{Answer, Words};
 use std::alloc::Global;
 
 pub(crate) fn answer(alloc: Global, call: &str, words: &mut Words<'_>) -> Result<Answer> {
-    match call {
-        "error" => error(alloc, words.next()),
-        _ => with_form(alloc, call, words),
+    match words.next() {
+        "utc" => of_form::<UTCTimeRepr>(alloc, call, words),
+        "generalized" => of_form::<GeneralizedTimeRepr>(alloc, call, words),
+        refusal if call == "error" => error(alloc, refusal),
+        _ => bad_row("no such form"),
     }
 }
 
@@ -43,19 +45,11 @@ fn refusal(error: &DateError) -> Answer {
     }
 }
 
-fn with_form(alloc: Global, call: &str, words: &mut Words<'_>) -> Result<Answer> {
-    match words.next() {
-        "utc" => of_form::<UTCTimeRepr>(alloc, call, words),
-        "generalized" => of_form::<GeneralizedTimeRepr>(alloc, call, words),
-        _ => bad_row("no such form"),
-    }
-}
-
 fn of_form<TR: TimeRepr + Ord>(alloc: Global, call: &str, words: &mut Words<'_>) -> Result<Answer> {
     match call {
         "read_text" => numbers(alloc, Date::<TR>::read_text(words.rest().as_bytes())),
         "copy" => copied::<TR>(alloc, words.rest()),
-        "write_text" => write_text::<TR>(alloc, words),
+        "write_text" => text(alloc, &date::<TR>(words)?),
         "to_civil" => to_civil::<TR>(alloc, words),
         "from_civil" => from_civil::<TR>(alloc, words.next()),
         "eq" | "gt" => compared::<TR>(call, words),
@@ -64,20 +58,12 @@ fn of_form<TR: TimeRepr + Ord>(alloc: Global, call: &str, words: &mut Words<'_>)
 }
 
 fn date<TR>(words: &mut Words<'_>) -> Result<Date<TR>> {
-    let (year, month, day) = day(words)?;
-    let (hour, minute, second) = time(words)?;
+    let (year, month, day) = (words.parsed()?, words.parsed()?, words.parsed()?);
+    let (hour, minute, second) = (words.parsed()?, words.parsed()?, words.parsed()?);
     match Date::new(year, month, day, hour, minute, second) {
         Some(date) => Ok(date),
         None => bad_row("a number is out of range"),
     }
-}
-
-fn day(words: &mut Words<'_>) -> Result<(u16, u8, u8)> {
-    Ok((words.parsed()?, words.parsed()?, words.parsed()?))
-}
-
-fn time(words: &mut Words<'_>) -> Result<(u8, u8, u8)> {
-    Ok((words.parsed()?, words.parsed()?, words.parsed()?))
 }
 
 fn from_civil<TR: TimeRepr>(alloc: Global, text: &str) -> Result<Answer> {
@@ -106,11 +92,6 @@ fn printed<TR>(alloc: Global, date: &Date<TR>) -> Result<Answer> {
             date.second() as u64,
         ],
     )
-}
-
-fn write_text<TR: TimeRepr>(alloc: Global, words: &mut Words<'_>) -> Result<Answer> {
-    let date = date::<TR>(words)?;
-    text(alloc, &date)
 }
 
 fn text<TR: TimeRepr>(alloc: Global, date: &Date<TR>) -> Result<Answer> {
@@ -143,10 +124,6 @@ fn to_civil<TR>(alloc: Global, words: &mut Words<'_>) -> Result<Answer> {
 fn compared<TR: Ord>(call: &str, words: &mut Words<'_>) -> Result<Answer> {
     let one = date::<TR>(words)?;
     let other = date::<TR>(words)?;
-    comparison(call, &one, &other)
-}
-
-fn comparison<TR: Ord>(call: &str, one: &Date<TR>, other: &Date<TR>) -> Result<Answer> {
     match call {
         "eq" => Ok(Answer::Truth(one == other)),
         _ => Ok(Answer::Truth(one > other)),

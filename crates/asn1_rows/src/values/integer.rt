@@ -7,7 +7,7 @@
 //     integer.is_positive INTEGER
 //     integer.is_negative INTEGER
 //     integer.debug INTEGER                    what `{:?}` prints
-use super::bad_row;
+use crate::bad_row;
 use anyhow::Result;
 use picky_asn1::wrapper::IntegerAsn1;
 use rows::{Answer, Words};
@@ -16,24 +16,17 @@ use std::alloc::Global;
 pub(crate) fn answer(alloc: Global, call: &str, words: &mut Words<'_>) -> Result<Answer> {
     let bytes = words.bytes(alloc)?;
     match call {
-        "from_bytes_be_signed" => from_signed(alloc, bytes),
+        "from_bytes_be_signed" => {
+            Answer::bytes(alloc, IntegerAsn1::from_bytes_be_signed(bytes).0.as_slice())
+        }
         "from_bytes_be_unsigned" => from_unsigned(alloc, bytes),
-        _ => of_integer(alloc, call, bytes),
+        _ => seen(alloc, call, &IntegerAsn1::from(bytes)),
     }
-}
-
-fn from_signed(alloc: Global, bytes: Vec<u8>) -> Result<Answer> {
-    Answer::bytes(alloc, IntegerAsn1::from_bytes_be_signed(bytes).0.as_slice())
 }
 
 fn from_unsigned(alloc: Global, bytes: Vec<u8>) -> Result<Answer> {
     let integer = IntegerAsn1::from_bytes_be_unsigned(alloc, bytes)?;
     Answer::bytes(alloc, integer.0.as_slice())
-}
-
-fn of_integer(alloc: Global, call: &str, bytes: Vec<u8>) -> Result<Answer> {
-    let integer = IntegerAsn1::from(bytes);
-    seen(alloc, call, &integer)
 }
 
 fn seen(alloc: Global, call: &str, integer: &IntegerAsn1) -> Result<Answer> {

@@ -7,7 +7,7 @@
 //     octets.into_vec OCTETS
 //     octets.eq OCTETS OCTETS
 //     octets.le OCTETS OCTETS
-use super::bad_row;
+use crate::bad_row;
 use anyhow::Result;
 use picky_asn1::wrapper::OctetStringAsn1;
 use rows::{Answer, Words};
@@ -17,7 +17,7 @@ pub(crate) fn answer(alloc: Global, call: &str, words: &mut Words<'_>) -> Result
     let octets = OctetStringAsn1::from(words.bytes(alloc)?);
     match call {
         "push" => push(alloc, octets, words),
-        "into_vec" => into_vec(alloc, octets),
+        "into_vec" => Answer::bytes(alloc, &Vec::from(octets)),
         _ => of_octets(alloc, call, octets, words),
     }
 }
@@ -32,11 +32,6 @@ fn push_byte(octets: &mut OctetStringAsn1, words: &mut Words<'_>) -> Result<()> 
     let byte = words.byte()?;
     octets.push(byte)?;
     Ok(())
-}
-
-fn into_vec(alloc: Global, octets: OctetStringAsn1) -> Result<Answer> {
-    let bytes: Vec<u8> = Vec::from(octets);
-    Answer::bytes(alloc, &bytes)
 }
 
 fn of_octets(
@@ -57,13 +52,9 @@ fn seen(
     match call {
         "debug" => Answer::debug(alloc, octets),
         "len" => Ok(Answer::Size(octets.len())),
-        "clone" => copied(alloc, octets),
+        "clone" => Answer::bytes(alloc, octets.clone(alloc)?.0.as_slice()),
         _ => compared(alloc, call, octets, words),
     }
-}
-
-fn copied(alloc: Global, octets: &OctetStringAsn1) -> Result<Answer> {
-    Answer::bytes(alloc, octets.clone(alloc)?.0.as_slice())
 }
 
 fn compared(
@@ -73,13 +64,9 @@ fn compared(
     words: &mut Words<'_>,
 ) -> Result<Answer> {
     let other = OctetStringAsn1::from(words.bytes(alloc)?);
-    comparison(call, one, &other)
-}
-
-fn comparison(call: &str, one: &OctetStringAsn1, other: &OctetStringAsn1) -> Result<Answer> {
     match call {
-        "eq" => Ok(Answer::Truth(one == other)),
-        "le" => Ok(Answer::Truth(one <= other)),
+        "eq" => Ok(Answer::Truth(*one == other)),
+        "le" => Ok(Answer::Truth(*one <= other)),
         _ => bad_row("no such call"),
     }
 }

@@ -5,7 +5,7 @@
 //     oid.copy CONTENTS                the copy's contents
 //     oid.is_that_of CONTENTS TEXT     whether the two are equal
 //     oid.error NAME                   what `{}` prints of a refusal
-use super::bad_row;
+use crate::bad_row;
 use anyhow::Result;
 use picky_asn1::CopyIn;
 use picky_asn1::oid::{ObjectIdentifier, OidError};
@@ -37,14 +37,10 @@ fn from_text(alloc: Global, text: &str) -> Result<Answer> {
 
 fn of_contents(alloc: Global, call: &str, words: &mut Words<'_>) -> Result<Answer> {
     let bytes = words.bytes(alloc)?;
-    seen(alloc, call, &bytes, words)
-}
-
-fn seen(alloc: Global, call: &str, bytes: &[u8], words: &mut Words<'_>) -> Result<Answer> {
     match call {
-        "from_contents" => from_contents(alloc, bytes),
-        "copy" => copied(alloc, bytes),
-        "is_that_of" => is_that_of(alloc, bytes, words.rest()),
+        "from_contents" => from_contents(alloc, &bytes),
+        "copy" => copied(alloc, &bytes),
+        "is_that_of" => is_that_of(alloc, &bytes, words.rest()),
         _ => bad_row("no such call"),
     }
 }

@@ -20,7 +20,7 @@
 //     tag.copy TAG                                the copy's byte
 //     tag.copy_class TAG                          what `{}` prints of a copy
 //     tag.copy_encoding TAG
-use super::bad_row;
+use crate::bad_row;
 use anyhow::Result;
 use picky_asn1::CopyIn;
 use picky_asn1::tag::Tag;
@@ -30,41 +30,34 @@ use std::fmt;
 
 pub(crate) fn answer(alloc: Global, call: &str, words: &mut Words<'_>) -> Result<Answer> {
     match call {
-        "constant" => named(words.next()),
+        "constant" => constant(words.next()),
         _ => of_byte(alloc, call, words.byte()?),
     }
 }
 
-fn named(name: &str) -> Result<Answer> {
-    match constant(name) {
-        Some(tag) => Ok(Answer::Byte(tag.0)),
-        None => bad_row("no such tag"),
-    }
-}
-
-fn constant(name: &str) -> Option<Tag> {
+fn constant(name: &str) -> Result<Answer> {
     match name {
-        "BOOLEAN" => Some(Tag::BOOLEAN),
-        "INTEGER" => Some(Tag::INTEGER),
-        "BIT_STRING" => Some(Tag::BIT_STRING),
-        "OCTET_STRING" => Some(Tag::OCTET_STRING),
-        "NULL" => Some(Tag::NULL),
-        "OID" => Some(Tag::OID),
-        "REAL" => Some(Tag::REAL),
-        "UTF8_STRING" => Some(Tag::UTF8_STRING),
-        "RELATIVE_OID" => Some(Tag::RELATIVE_OID),
-        "NUMERIC_STRING" => Some(Tag::NUMERIC_STRING),
-        "PRINTABLE_STRING" => Some(Tag::PRINTABLE_STRING),
-        "TELETEX_STRING" => Some(Tag::TELETEX_STRING),
-        "VIDEOTEX_STRING" => Some(Tag::VIDEOTEX_STRING),
-        "IA5_STRING" => Some(Tag::IA5_STRING),
-        "UTC_TIME" => Some(Tag::UTC_TIME),
-        "GENERALIZED_TIME" => Some(Tag::GENERALIZED_TIME),
-        "GENERAL_STRING" => Some(Tag::GENERAL_STRING),
-        "BMP_STRING" => Some(Tag::BMP_STRING),
-        "SEQUENCE" => Some(Tag::SEQUENCE),
-        "SET" => Some(Tag::SET),
-        _ => None,
+        "BOOLEAN" => Ok(Answer::Byte(Tag::BOOLEAN.0)),
+        "INTEGER" => Ok(Answer::Byte(Tag::INTEGER.0)),
+        "BIT_STRING" => Ok(Answer::Byte(Tag::BIT_STRING.0)),
+        "OCTET_STRING" => Ok(Answer::Byte(Tag::OCTET_STRING.0)),
+        "NULL" => Ok(Answer::Byte(Tag::NULL.0)),
+        "OID" => Ok(Answer::Byte(Tag::OID.0)),
+        "REAL" => Ok(Answer::Byte(Tag::REAL.0)),
+        "UTF8_STRING" => Ok(Answer::Byte(Tag::UTF8_STRING.0)),
+        "RELATIVE_OID" => Ok(Answer::Byte(Tag::RELATIVE_OID.0)),
+        "NUMERIC_STRING" => Ok(Answer::Byte(Tag::NUMERIC_STRING.0)),
+        "PRINTABLE_STRING" => Ok(Answer::Byte(Tag::PRINTABLE_STRING.0)),
+        "TELETEX_STRING" => Ok(Answer::Byte(Tag::TELETEX_STRING.0)),
+        "VIDEOTEX_STRING" => Ok(Answer::Byte(Tag::VIDEOTEX_STRING.0)),
+        "IA5_STRING" => Ok(Answer::Byte(Tag::IA5_STRING.0)),
+        "UTC_TIME" => Ok(Answer::Byte(Tag::UTC_TIME.0)),
+        "GENERALIZED_TIME" => Ok(Answer::Byte(Tag::GENERALIZED_TIME.0)),
+        "GENERAL_STRING" => Ok(Answer::Byte(Tag::GENERAL_STRING.0)),
+        "BMP_STRING" => Ok(Answer::Byte(Tag::BMP_STRING.0)),
+        "SEQUENCE" => Ok(Answer::Byte(Tag::SEQUENCE.0)),
+        "SET" => Ok(Answer::Byte(Tag::SET.0)),
+        _ => bad_row("no such tag"),
     }
 }
 
@@ -88,15 +81,11 @@ fn of_tag(alloc: Global, call: &str, tag: Tag) -> Result<Answer> {
         "encoding" => Answer::display(alloc, &tag.encoding()),
         "inner" => Ok(Answer::Byte(tag.inner())),
         "number" => Ok(Answer::Size(usize::from(tag.number()))),
-        "copy" => copied(alloc, tag),
+        "copy" => Ok(Answer::Byte(tag.copy_in(alloc)?.0)),
         "copy_class" => printed_copy(alloc, &tag.class()),
         "copy_encoding" => printed_copy(alloc, &tag.encoding()),
         _ => test(call, tag),
     }
-}
-
-fn copied(alloc: Global, tag: Tag) -> Result<Answer> {
-    Ok(Answer::Byte(tag.copy_in(alloc)?.0))
 }
 
 fn printed_copy<T: CopyIn + fmt::Display + Drop>(alloc: Global, value: &T) -> Result<Answer> {

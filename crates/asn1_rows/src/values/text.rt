@@ -15,7 +15,7 @@
 //     text.into_string SET STRING          the text
 //     text.to_utf8 bmp STRING              the text's bytes
 //     text.error NAME                      what `{}` prints of a refusal
-use super::bad_row;
+use crate::bad_row;
 use anyhow::Result;
 use picky_asn1::CopyIn;
 use picky_asn1::restricted_string::{
@@ -27,9 +27,14 @@ use std::alloc::Global;
 use std::convert::AsSlice;
 
 pub(crate) fn answer(alloc: Global, call: &str, words: &mut Words<'_>) -> Result<Answer> {
-    match call {
-        "error" => error(alloc, words.next()),
-        _ => with_set(alloc, call, words),
+    match words.next() {
+        "numeric" => of_texts::<NumericCharSet>(alloc, call, words),
+        "printable" => of_texts::<PrintableCharSet>(alloc, call, words),
+        "utf8" => of_texts::<Utf8CharSet>(alloc, call, words),
+        "ia5" => of_texts::<Ia5CharSet>(alloc, call, words),
+        "bmp" => of_bmp(alloc, call, words),
+        refusal if call == "error" => error(alloc, refusal),
+        _ => bad_row("no such set"),
     }
 }
 
@@ -48,23 +53,12 @@ fn error(alloc: Global, name: &str) -> Result<Answer> {
     }
 }
 
-fn with_set(alloc: Global, call: &str, words: &mut Words<'_>) -> Result<Answer> {
-    match words.next() {
-        "numeric" => of_texts::<NumericCharSet>(alloc, call, words),
-        "printable" => of_texts::<PrintableCharSet>(alloc, call, words),
-        "utf8" => of_texts::<Utf8CharSet>(alloc, call, words),
-        "ia5" => of_texts::<Ia5CharSet>(alloc, call, words),
-        "bmp" => of_bmp(alloc, call, words),
-        _ => bad_row("no such set"),
-    }
-}
-
 // The calls of each set.
 fn of_set<C: CharSet>(alloc: Global, call: &str, words: &mut Words<'_>) -> Result<Answer> {
     match call {
         "members" => members::<C>(alloc),
-        "new" => new::<C>(alloc, words),
-        "into_vec" => into_vec::<C>(alloc, words),
+        "new" => held(alloc, RestrictedString::<C>::new(words.bytes(alloc)?)),
+        "into_vec" => Answer::bytes(alloc, &Vec::from(string::<C>(alloc, words)?)),
         _ => of_string::<C>(alloc, call, words),
     }
 }
@@ -93,15 +87,6 @@ fn string<C: CharSet>(alloc: Global, words: &mut Words<'_>) -> Result<Restricted
     Ok(RestrictedString::new(words.bytes(alloc)?)?)
 }
 
-fn new<C: CharSet>(alloc: Global, words: &mut Words<'_>) -> Result<Answer> {
-    held(alloc, RestrictedString::<C>::new(words.bytes(alloc)?))
-}
-
-fn into_vec<C: CharSet>(alloc: Global, words: &mut Words<'_>) -> Result<Answer> {
-    let bytes: Vec<u8> = string::<C>(alloc, words)?.into();
-    Answer::bytes(alloc, &bytes)
-}
-
 fn of_string<C: CharSet>(alloc: Global, call: &str, words: &mut Words<'_>) -> Result<Answer> {
     let string = string::<C>(alloc, words)?;
     seen(alloc, call, &string)
@@ -109,16 +94,12 @@ fn of_string<C: CharSet>(alloc: Global, call: &str, words: &mut Words<'_>) -> Re
 
 fn seen<C: CharSet>(alloc: Global, call: &str, string: &RestrictedString<C>) -> Result<Answer> {
     match call {
-        "copy" => copied(alloc, string),
+        "copy" => Answer::bytes(alloc, string.copy_in(alloc)?.as_bytes()),
         "as_slice" => Answer::bytes(alloc, AsSlice::as_slice(string)),
         "display" => Answer::display(alloc, string),
         "debug" => Answer::debug(alloc, string),
         _ => bad_row("no such call"),
     }
-}
-
-fn copied<C: CharSet>(alloc: Global, string: &RestrictedString<C>) -> Result<Answer> {
-    Answer::bytes(alloc, string.copy_in(alloc)?.as_bytes())
 }
 
 // Those of the sets that are parts of UTF-8.
@@ -131,8 +112,8 @@ fn of_texts<C: Utf8Set + PartialEq>(
         "from_str" => held(alloc, RestrictedString::<C>::from_str(alloc, words.rest())),
         "from_string" => from_string::<C>(alloc, words.rest()),
         "is_that_of" => is_that_of::<C>(alloc, words),
-        "as_utf8" => as_utf8::<C>(alloc, words),
-        "into_string" => into_string::<C>(alloc, words),
+        "as_utf8" => Answer::text(alloc, string::<C>(alloc, words)?.as_utf8()),
+        "into_string" => Ok(Answer::Text(string::<C>(alloc, words)?.into_string())),
         _ => of_set::<C>(alloc, call, words),
     }
 }
@@ -146,14 +127,6 @@ fn is_that_of<C: Utf8Set + PartialEq>(alloc: Global, words: &mut Words<'_>) -> R
     let string = string::<C>(alloc, words)?;
     let other = RestrictedString::<C>::from_str(alloc, words.rest())?;
     Ok(Answer::Truth(string == other))
-}
-
-fn as_utf8<C: Utf8Set>(alloc: Global, words: &mut Words<'_>) -> Result<Answer> {
-    Answer::text(alloc, string::<C>(alloc, words)?.as_utf8())
-}
-
-fn into_string<C: Utf8Set>(alloc: Global, words: &mut Words<'_>) -> Result<Answer> {
-    Ok(Answer::Text(string::<C>(alloc, words)?.into_string()))
 }
 
 // Those of BMPString.
@@ -173,12 +146,9 @@ fn bmp_from_str(alloc: Global, words: &mut Words<'_>) -> Result<Answer> {
 
 fn is_bmp_of(alloc: Global, words: &mut Words<'_>) -> Result<Answer> {
     let string = string::<BmpCharSet>(alloc, words)?;
-    is_that(alloc, &string, &words.text(alloc)?)
-}
-
-fn is_that(alloc: Global, string: &BmpString, text: &str) -> Result<Answer> {
-    let other = BmpString::from_str(alloc, text)?;
-    Ok(Answer::Truth(*string == other))
+    let text = words.text(alloc)?;
+    let other = BmpString::from_str(alloc, &text)?;
+    Ok(Answer::Truth(string == other))
 }
 
 fn to_utf8(alloc: Global, words: &mut Words<'_>) -> Result<Answer> {

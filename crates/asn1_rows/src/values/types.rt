@@ -3,7 +3,7 @@
 //     type.tag TYPE         the byte of its tag
 //     type.name TYPE
 //     type.default TYPE     a copy of its default: bytes in hex, a number, or `true` or `false`
-use super::bad_row;
+use crate::bad_row;
 use anyhow::Result;
 use picky_asn1::bit_string::BitString;
 use picky_asn1::restricted_string::{BmpString, CharSet, Ia5String, RestrictedString, Utf8String};
@@ -45,8 +45,8 @@ fn described(call: &str, name: &str) -> Result<Answer> {
 
 fn default(alloc: Global, name: &str) -> Result<Answer> {
     match name {
-        "bool" => default_truth(alloc),
-        "u32" => default_number(alloc),
+        "bool" => Ok(Answer::Truth(default_of(alloc)?)),
+        "u32" => Ok(Answer::Size(default_of::<u32>(alloc)? as usize)),
         "String" => default_text(alloc),
         "IntegerAsn1" => default_integer(alloc),
         "OctetStringAsn1" => default_octets(alloc),
@@ -61,14 +61,6 @@ fn default(alloc: Global, name: &str) -> Result<Answer> {
 fn default_of<T: Empty + CopyIn + Drop>(alloc: Global) -> Result<T, AllocError> {
     let default = T::empty(alloc)?;
     default.copy_in(alloc)
-}
-
-fn default_truth(alloc: Global) -> Result<Answer> {
-    Ok(Answer::Truth(default_of(alloc)?))
-}
-
-fn default_number(alloc: Global) -> Result<Answer> {
-    Ok(Answer::Number(i128::from(default_of::<u32>(alloc)?)))
 }
 
 fn default_text(alloc: Global) -> Result<Answer> {

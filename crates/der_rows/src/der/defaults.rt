@@ -5,37 +5,24 @@
 //     der_default.written TYPE BYTES      what a field with the value that is read of the bytes is written as
 //     der_default.is TYPE BYTES           whether that value is the default
 //
-// What is written is read again, and the two fields are equal; nothing is written for the default alone.
-use crate::der::faults::bytes_or_refusal;
-use anyhow::{Result, bail};
-use picky_asn1_bits::{IntegerAsn1, OctetStringAsn1};
+// What is written is read again, and the two fields are equal; nothing is written for the default alone. values.rt names
+// the types that are read without a field as well.
+use crate::der::faults::encoded;
+use crate::der::plain::{bad_row, next_value};
+use crate::der::types;
+use anyhow::Result;
+use picky_asn1_bits::OctetStringAsn1;
 use picky_asn1_tag::Empty;
 use picky_asn1_wrapper::{
-    Asn1SequenceOf, Asn1SetOf, BitStringAsn1, BitStringAsn1Container, BmpStringAsn1, EqualMeaning,
-    ExplicitContextTag0, GeneralStringAsn1, HeaderOnly, Ia5StringAsn1, ImplicitContextTag2,
-    OctetStringAsn1Container, Optional, Utf8StringAsn1,
+    Asn1SequenceOf, Asn1SetOf, BitStringAsn1Container, EqualMeaning, ExplicitContextTag0,
+    HeaderOnly, ImplicitContextTag2, OctetStringAsn1Container, Optional, Utf8StringAsn1,
 };
-use picky_der::{Asn1RawDer, DerRead, DerReader, DerWrite, from_bytes, to_vec};
+use picky_der::{Asn1RawDer, DerRead, DerReader, DerWrite};
 use rows::{Answer, Words};
 use std::alloc::Global;
 
-pub fn answer(alloc: Global, call: &str, words: &mut Words<'_>) -> Result<Answer> {
-    match words.next() {
-        "null" => field::<()>(alloc, call, words),
-        "boolean" => field::<bool>(alloc, call, words),
-        "u64" => field::<u64>(alloc, call, words),
-        "text" => field::<String>(alloc, call, words),
-        "integer" => field::<IntegerAsn1>(alloc, call, words),
-        "octets" => field::<OctetStringAsn1>(alloc, call, words),
-        "bits" => field::<BitStringAsn1>(alloc, call, words),
-        "ia5" => field::<Ia5StringAsn1>(alloc, call, words),
-        "general" => field::<GeneralStringAsn1>(alloc, call, words),
-        "bmp" => field::<BmpStringAsn1>(alloc, call, words),
-        wrapper => answer_of_wrapper(alloc, wrapper, call, words),
-    }
-}
-
-fn answer_of_wrapper(
+/// What a call gives of a wrapper that is a field alone.
+pub fn answer_of_wrapper(
     alloc: Global,
     name: &str,
     call: &str,
@@ -51,29 +38,30 @@ fn answer_of_wrapper(
             field::<ExplicitContextTag0<Asn1SequenceOf<String>>>(alloc, call, words)
         }
         "implicit_2_octets" => field::<ImplicitContextTag2<OctetStringAsn1>>(alloc, call, words),
-        _ => bail!("no such type"),
+        _ => types::answer_of_wrapper(name, call),
     }
 }
 
-fn field<T: Empty + EqualMeaning + DerRead + DerWrite + Drop>(
+/// What a call gives of a field of a type.
+pub fn field<T: Empty + EqualMeaning + DerRead + DerWrite + Drop>(
     alloc: Global,
     call: &str,
     words: &mut Words<'_>,
 ) -> Result<Answer> {
     match call {
-        "encoded" => bytes_or_refusal(alloc, to_vec(alloc, &T::empty(alloc)?)),
+        "encoded" => encoded(alloc, &T::empty(alloc)?),
         "left_out" => written::<T>(alloc, Optional::empty(alloc)?),
-        "written" => written::<T>(alloc, value(alloc, words)?),
-        "is" => is::<T>(alloc, value(alloc, words)?),
-        _ => bail!("no such call"),
+        "written" => written::<T>(alloc, Optional(next_value(alloc, words)?)),
+        "is" => is::<T>(alloc, words),
+        _ => bad_row("no such call"),
     }
 }
 
-fn value<T: DerRead + Drop>(alloc: Global, words: &mut Words<'_>) -> Result<Optional<T>> {
-    Ok(Optional(from_bytes(alloc, &words.bytes(alloc)?)?))
-}
-
-fn is<T: Empty + EqualMeaning + Drop>(alloc: Global, field: Optional<T>) -> Result<Answer> {
+fn is<T: Empty + EqualMeaning + DerRead + Drop>(
+    alloc: Global,
+    words: &mut Words<'_>,
+) -> Result<Answer> {
+    let field: Optional<T> = Optional(next_value(alloc, words)?);
     Ok(Answer::Truth(field.is_default(alloc)?))
 }
 
@@ -83,9 +71,20 @@ fn written<T: Empty + EqualMeaning + DerRead + DerWrite + Drop>(
 ) -> Result<Answer> {
     let mut fields = Vec::new(alloc);
     field.write_in(alloc, &mut fields)?;
-    let back: Optional<T> = Optional::read_in(alloc, &mut DerReader::new(&fields))?;
-    if back.0 != field.0 || field.is_default(alloc)? != fields.is_empty() {
-        bail!("what is read again is another value, or another value than the default is left out");
+    read_again(alloc, &field, &fields)
+}
+
+fn read_again<T: Empty + EqualMeaning + DerRead + Drop>(
+    alloc: Global,
+    field: &Optional<T>,
+    fields: &[u8],
+) -> Result<Answer> {
+    let back: Optional<T> = Optional::read_in(alloc, &mut DerReader::new(fields))?;
+    if back.0 != field.0 {
+        return bad_row("what is read again is another value");
     }
-    Answer::bytes(alloc, &fields)
+    if field.is_default(alloc)? != fields.is_empty() {
+        return bad_row("another value than the default is left out");
+    }
+    Answer::bytes(alloc, fields)
 }

@@ -1,9 +1,10 @@
 // Faults.
 //
 //     der_fault.text NAME [BYTE BYTE]      the fault's text; WrongTag has the tag that was asked for and that which stands there
-use anyhow::{Result, bail};
+use crate::der::plain::{bad_row, encoding_of};
+use anyhow::Result;
 use picky_asn1_tag::Tag;
-use picky_der::DerError;
+use picky_der::{DerError, DerWrite};
 use rows::{Answer, Words};
 use std::alloc::Global;
 
@@ -16,40 +17,42 @@ pub fn refusal(fault: DerError) -> Result<Answer> {
         DerError::BadValue => Ok(Answer::Word("BadValue")),
         DerError::TrailingBytes => Ok(Answer::Word("TrailingBytes")),
         DerError::TooDeep => Ok(Answer::Word("TooDeep")),
-        DerError::OutOfMemory => bail!("out of memory"),
+        DerError::OutOfMemory => bad_row("out of memory"),
     }
 }
 
-/// Bytes, or the fault by its name.
-pub fn bytes_or_refusal(alloc: Global, bytes: Result<Vec<u8>, DerError>) -> Result<Answer> {
-    match bytes {
+/// A word for any refusal.
+pub fn refused(fault: DerError, word: &'static str) -> Result<Answer> {
+    refusal(fault)?;
+    Ok(Answer::Word(word))
+}
+
+/// What a value is written as, or the fault by its name.
+pub fn encoded<T: DerWrite>(alloc: Global, value: &T) -> Result<Answer> {
+    match encoding_of(alloc, value) {
         Ok(bytes) => Answer::bytes(alloc, &bytes),
         Err(fault) => refusal(fault),
     }
 }
 
-fn wrong_tag(words: &mut Words<'_>) -> Result<DerError> {
+pub fn answer(alloc: Global, call: &str, words: &mut Words<'_>) -> Result<Answer> {
+    if call != "text" {
+        return bad_row("no such call");
+    }
+    match words.next() {
+        "Truncated" => Answer::display(alloc, &DerError::Truncated),
+        "WrongTag" => wrong_tag(alloc, words),
+        "BadLength" => Answer::display(alloc, &DerError::BadLength),
+        "BadValue" => Answer::display(alloc, &DerError::BadValue),
+        "TrailingBytes" => Answer::display(alloc, &DerError::TrailingBytes),
+        "TooDeep" => Answer::display(alloc, &DerError::TooDeep),
+        "OutOfMemory" => Answer::display(alloc, &DerError::OutOfMemory),
+        _ => bad_row("no such fault"),
+    }
+}
+
+fn wrong_tag(alloc: Global, words: &mut Words<'_>) -> Result<Answer> {
     let expected = Tag(words.byte()?);
     let got = Tag(words.byte()?);
-    Ok(DerError::WrongTag { expected, got })
-}
-
-fn fault_of(words: &mut Words<'_>) -> Result<DerError> {
-    match words.next() {
-        "Truncated" => Ok(DerError::Truncated),
-        "WrongTag" => wrong_tag(words),
-        "BadLength" => Ok(DerError::BadLength),
-        "BadValue" => Ok(DerError::BadValue),
-        "TrailingBytes" => Ok(DerError::TrailingBytes),
-        "TooDeep" => Ok(DerError::TooDeep),
-        "OutOfMemory" => Ok(DerError::OutOfMemory),
-        _ => bail!("no such fault"),
-    }
-}
-
-pub fn answer(alloc: Global, call: &str, words: &mut Words<'_>) -> Result<Answer> {
-    match call {
-        "text" => Answer::display(alloc, &fault_of(words)?),
-        _ => bail!("no such call"),
-    }
+    Answer::display(alloc, &DerError::WrongTag { expected, got })
 }

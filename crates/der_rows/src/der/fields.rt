@@ -11,18 +11,16 @@
 //     der_fields.read_in_octets BYTES
 //     der_text.peek BYTES                            the next tag
 //     der_text.read BYTES                            the text that a UTF8String is, or the fault
-use crate::der::faults::{bytes_or_refusal, refusal};
-use anyhow::{Result, bail};
-use picky_asn1_tag::Tag;
+use crate::der::faults::{encoded, refusal, refused};
+use crate::der::plain::{bad_row, nested, next_value, read, sequence_of, value_of, write};
+use anyhow::Result;
 use picky_asn1_wrapper::{Asn1SequenceOf, BitStringAsn1Container, OctetStringAsn1Container};
-use picky_der::{
-    Asn1RawDer, DerError, DerRead, DerReader, DerWrite, from_bytes, to_vec, write_value,
-};
+use picky_der::{Asn1RawDer, DerError, DerRead, DerReader};
 use rows::{Answer, Words};
 use std::alloc::Global;
 use std::fmt;
 
-pub fn number(alloc: Global, call: &str, words: &mut Words<'_>) -> Result<Answer> {
+pub fn plain(alloc: Global, call: &str, words: &mut Words<'_>) -> Result<Answer> {
     let bytes = words.bytes(alloc)?;
     match call {
         "u8" => read_one::<u8>(alloc, &bytes),
@@ -31,32 +29,24 @@ pub fn number(alloc: Global, call: &str, words: &mut Words<'_>) -> Result<Answer
         "u64" => read_one::<u64>(alloc, &bytes),
         "u128" => read_one::<u128>(alloc, &bytes),
         "boolean" => read_one::<bool>(alloc, &bytes),
-        "pair" => pair(alloc, &bytes),
-        _ => bail!("no such call"),
-    }
-}
-
-pub fn text(alloc: Global, call: &str, words: &mut Words<'_>) -> Result<Answer> {
-    let bytes = words.bytes(alloc)?;
-    match call {
-        "peek" => Ok(Answer::Byte(DerReader::new(&bytes).peek_tag()?.next_tag.0)),
         "read" => read_one::<String>(alloc, &bytes),
-        _ => bail!("no such call"),
+        "pair" => pair(alloc, &bytes),
+        "peek" => Ok(Answer::Byte(DerReader::new(&bytes).peek_tag()?.next_tag.0)),
+        _ => bad_row("no such call"),
     }
 }
 
 fn read_one<T: DerRead + fmt::Display + Drop>(alloc: Global, bytes: &[u8]) -> Result<Answer> {
-    match from_bytes::<T>(alloc, bytes) {
+    match value_of::<T>(alloc, bytes) {
         Ok(value) => Answer::display(alloc, &value),
         Err(fault) => refusal(fault),
     }
 }
 
 fn pair(alloc: Global, bytes: &[u8]) -> Result<Answer> {
-    match from_bytes::<Asn1SequenceOf<u64>>(alloc, bytes) {
+    match value_of::<Asn1SequenceOf<u64>>(alloc, bytes) {
         Ok(numbers) => pair_of(alloc, numbers.0.as_slice()),
-        Err(DerError::OutOfMemory) => bail!("out of memory"),
-        Err(_) => Ok(Answer::Word("refused")),
+        Err(fault) => refused(fault, "refused"),
     }
 }
 
@@ -68,99 +58,50 @@ fn pair_of(alloc: Global, numbers: &[u64]) -> Result<Answer> {
     }
 }
 
-// Fields of different types.
-#[derive(Clone, Copy)]
-struct ThreeNumbers {
-    first: u32,
-    second: u16,
-    third: u16,
-}
-
 pub fn three(alloc: Global, call: &str, words: &mut Words<'_>) -> Result<Answer> {
     match call {
-        "write" | "write_in_bits" | "write_in_octets" => write_three(alloc, call, numbers(words)?),
-        _ => read_three(alloc, call, &words.bytes(alloc)?),
+        "read" => read_three(alloc, &words.bytes(alloc)?),
+        "read_in_bits" => {
+            let container: BitStringAsn1Container<Asn1RawDer> = next_value(alloc, words)?;
+            read_three(alloc, container.0.as_bytes())
+        }
+        "read_in_octets" => {
+            let container: OctetStringAsn1Container<Asn1RawDer> = next_value(alloc, words)?;
+            read_three(alloc, container.0.as_bytes())
+        }
+        "write" => encoded(alloc, &three_of(alloc, words)?),
+        "write_in_bits" => encoded(alloc, &BitStringAsn1Container(three_of(alloc, words)?)),
+        "write_in_octets" => encoded(alloc, &OctetStringAsn1Container(three_of(alloc, words)?)),
+        _ => bad_row("no such call"),
     }
 }
 
-fn numbers(words: &mut Words<'_>) -> Result<ThreeNumbers> {
-    Ok(ThreeNumbers {
-        first: words.parsed()?,
-        second: words.parsed()?,
-        third: words.parsed()?,
-    })
-}
-
-fn write_three(alloc: Global, call: &str, three: ThreeNumbers) -> Result<Answer> {
-    let bytes = sequence(alloc, three)?;
-    match call {
-        "write_in_bits" => in_bits(alloc, bytes),
-        "write_in_octets" => in_octets(alloc, bytes),
-        _ => Answer::bytes(alloc, &bytes),
-    }
-}
-
-fn sequence(alloc: Global, three: ThreeNumbers) -> Result<Vec<u8>, DerError> {
+// The SEQUENCE of the numbers in a row.
+fn three_of(alloc: Global, words: &mut Words<'_>) -> Result<Asn1RawDer> {
     let mut fields = Vec::new(alloc);
-    three.first.write_der(alloc, &mut fields)?;
-    three.second.write_der(alloc, &mut fields)?;
-    three.third.write_der(alloc, &mut fields)?;
-    let mut bytes = Vec::new(alloc);
-    write_value(&mut bytes, Tag::SEQUENCE, &fields)?;
-    Ok(bytes)
+    write(alloc, &words.parsed::<u32>()?, &mut fields)?;
+    write(alloc, &words.parsed::<u16>()?, &mut fields)?;
+    write(alloc, &words.parsed::<u16>()?, &mut fields)?;
+    Ok(Asn1RawDer::new(sequence_of(alloc, &fields)?)?)
 }
 
-fn in_bits(alloc: Global, bytes: Vec<u8>) -> Result<Answer> {
-    let container = BitStringAsn1Container(Asn1RawDer::new(bytes)?);
-    bytes_or_refusal(alloc, to_vec(alloc, &container))
-}
-
-fn in_octets(alloc: Global, bytes: Vec<u8>) -> Result<Answer> {
-    let container = OctetStringAsn1Container(Asn1RawDer::new(bytes)?);
-    bytes_or_refusal(alloc, to_vec(alloc, &container))
-}
-
-fn read_three(alloc: Global, call: &str, bytes: &[u8]) -> Result<Answer> {
-    let read = match call {
-        "read" => fields(alloc, bytes),
-        "read_in_bits" => fields_in_bits(alloc, bytes),
-        "read_in_octets" => fields_in_octets(alloc, bytes),
-        _ => bail!("no such call"),
-    };
-    match read {
-        Ok(three) => Answer::numbers(
-            alloc,
-            &[
-                u64::from(three.first),
-                u64::from(three.second),
-                u64::from(three.third),
-            ],
-        ),
+fn read_three(alloc: Global, bytes: &[u8]) -> Result<Answer> {
+    match fields(alloc, bytes) {
+        Ok((first, second, third)) => {
+            Answer::numbers(alloc, &[first as u64, second as u64, third as u64])
+        }
         Err(fault) => refusal(fault),
     }
 }
 
-fn fields(alloc: Global, bytes: &[u8]) -> Result<ThreeNumbers, DerError> {
+// Fields of different types.
+fn fields(alloc: Global, bytes: &[u8]) -> Result<(u32, u16, u16), DerError> {
     let mut reader = DerReader::new(bytes);
-    let mut fields = reader.nested(Tag::SEQUENCE)?;
-    let first = u32::read_der(alloc, &mut fields)?;
-    let second = u16::read_der(alloc, &mut fields)?;
-    let third = u16::read_der(alloc, &mut fields)?;
+    let mut fields = nested(&mut reader)?;
+    let first = read(alloc, &mut fields)?;
+    let second = read(alloc, &mut fields)?;
+    let third = read(alloc, &mut fields)?;
     fields.end()?;
     reader.end()?;
-    Ok(ThreeNumbers {
-        first,
-        second,
-        third,
-    })
-}
-
-fn fields_in_bits(alloc: Global, bytes: &[u8]) -> Result<ThreeNumbers, DerError> {
-    let container: BitStringAsn1Container<Asn1RawDer> = from_bytes(alloc, bytes)?;
-    fields(alloc, container.0.as_bytes())
-}
-
-fn fields_in_octets(alloc: Global, bytes: &[u8]) -> Result<ThreeNumbers, DerError> {
-    let container: OctetStringAsn1Container<Asn1RawDer> = from_bytes(alloc, bytes)?;
-    fields(alloc, container.0.as_bytes())
+    Ok((first, second, third))
 }

@@ -4,56 +4,64 @@
 //     der_record.comes_back TYPE BYTES    whether the bytes are read as a value that is written as them
 //     der_record.told BYTES               which case of an entry the bytes are
 //     der_record.levels BYTES N           `read` where the bytes are a bag nested at most N levels, `none`, or the fault
-use crate::der::faults::{bytes_or_refusal, refusal};
+use crate::der::faults::{encoded, refusal};
+use crate::der::plain::{bad_row, next_value, value_of};
 use crate::der::values::comes_back;
-use anyhow::{Result, bail};
+use anyhow::Result;
 use der_examples::{Bag, Batch, Entry, read_levels, write_levels};
-use picky_der::{DerRead, DerReader, DerWrite, from_bytes, to_vec};
+use picky_der::{DerRead, DerReader, DerWrite};
 use rows::{Answer, Words};
 use std::alloc::Global;
 
 pub fn answer(alloc: Global, call: &str, words: &mut Words<'_>) -> Result<Answer> {
     match call {
-        "told" => told(alloc, &words.bytes(alloc)?),
-        "levels" => levels(alloc, &words.bytes(alloc)?, words.next().parse::<u32>()?),
+        "told" => told(&next_value(alloc, words)?),
+        "levels" => levels(alloc, words),
         _ => record_of(alloc, call, words),
     }
 }
 
 fn record_of(alloc: Global, call: &str, words: &mut Words<'_>) -> Result<Answer> {
     match words.next() {
-        "batch" => record::<Batch>(alloc, call, &words.bytes(alloc)?),
-        "entry" => record::<Entry>(alloc, call, &words.bytes(alloc)?),
-        _ => bail!("no such type"),
+        "batch" => record::<Batch>(alloc, call, words),
+        "entry" => record::<Entry>(alloc, call, words),
+        _ => bad_row("no such type"),
     }
 }
 
-fn record<T: DerRead + DerWrite + Drop>(alloc: Global, call: &str, bytes: &[u8]) -> Result<Answer> {
+fn record<T: DerRead + DerWrite + Drop>(
+    alloc: Global,
+    call: &str,
+    words: &mut Words<'_>,
+) -> Result<Answer> {
+    let bytes = words.bytes(alloc)?;
     match call {
-        "read" => read::<T>(alloc, bytes),
-        "comes_back" => comes_back::<T>(alloc, bytes),
-        _ => bail!("no such call"),
+        "read" => read::<T>(alloc, &bytes),
+        "comes_back" => comes_back::<T>(alloc, &bytes),
+        _ => bad_row("no such call"),
     }
 }
 
 fn read<T: DerRead + DerWrite + Drop>(alloc: Global, bytes: &[u8]) -> Result<Answer> {
-    match from_bytes::<T>(alloc, bytes) {
-        Ok(value) => bytes_or_refusal(alloc, to_vec(alloc, &value)),
+    match value_of::<T>(alloc, bytes) {
+        Ok(value) => encoded(alloc, &value),
         Err(fault) => refusal(fault),
     }
 }
 
-fn told(alloc: Global, bytes: &[u8]) -> Result<Answer> {
-    match from_bytes::<Entry>(alloc, bytes)? {
+fn told(entry: &Entry) -> Result<Answer> {
+    match entry {
         Entry::Name(_) => Ok(Answer::Word("name")),
         Entry::Count(_) => Ok(Answer::Word("count")),
         Entry::Unknown { .. } => Ok(Answer::Word("unknown")),
     }
 }
 
-fn levels(alloc: Global, bytes: &[u8], levels: u32) -> Result<Answer> {
-    match read_levels::<Bag>(alloc, &mut DerReader::new(bytes), levels) {
-        Ok(Some(bag)) => written(alloc, &bag, levels, bytes),
+fn levels(alloc: Global, words: &mut Words<'_>) -> Result<Answer> {
+    let bytes = words.bytes(alloc)?;
+    let levels = words.parsed()?;
+    match read_levels::<Bag>(alloc, &mut DerReader::new(&bytes), levels) {
+        Ok(Some(bag)) => written(alloc, &bag, levels, &bytes),
         Ok(None) => Ok(Answer::Word("none")),
         Err(fault) => refusal(fault),
     }

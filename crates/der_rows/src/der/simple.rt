@@ -8,130 +8,141 @@
 //     der_oid.of TEXT                   what the identifier is written as
 //     der_oid.changed TEXT TEXT         the first identifier, changed in place to the second
 //     der_oid.text BYTES                the text of the identifier that the bytes are
+use crate::der::plain::{bad_row, next_value};
 use crate::der::values::written;
-use anyhow::{Result, bail};
+use anyhow::Result;
 use picky_asn1_bits::BitString;
 use picky_asn1_oid::ObjectIdentifier;
-use picky_asn1_tag::{Asn1Type, CopyIn, Empty};
+use picky_asn1_tag::{CopyIn, Empty};
 use picky_asn1_text::{
-    BmpString, CharSetError, Ia5String, NumericString, PrintableString, RestrictedString, Utf8Set,
-    Utf8String,
+    BmpString, Ia5CharSet, Ia5String, NumericCharSet, PrintableCharSet, RestrictedString,
+    Utf8CharSet, Utf8Set,
 };
 use picky_asn1_wrapper::{
     BitStringAsn1, BmpStringAsn1, GeneralStringAsn1, Ia5StringAsn1, NumericStringAsn1,
-    ObjectIdentifierAsn1, PrintableStringAsn1, StringAsn1, Utf8StringAsn1,
+    ObjectIdentifierAsn1, PrintableStringAsn1, Utf8StringAsn1,
 };
-use picky_der::{DerError, DerRead, DerWrite, from_bytes};
+use picky_der::{DerRead, DerWrite};
 use rows::{Answer, Words};
 use std::alloc::Global;
 
 pub fn string(alloc: Global, call: &str, words: &mut Words<'_>) -> Result<Answer> {
     match call {
-        "of" => string_of(alloc, words.next(), words.rest()),
-        "text" => text_of(alloc, words.next(), &words.bytes(alloc)?),
-        "changed" => changed(alloc, words.rest()),
-        _ => bail!("no such call"),
+        "changed" => changed(alloc, words),
+        _ => of_type(alloc, call, words),
     }
 }
 
-fn wrapped<S, W: From<S> + DerRead + DerWrite + CopyIn + PartialEq + Drop>(
-    alloc: Global,
-    inner: Result<S, CharSetError>,
-) -> Result<Answer> {
-    written(alloc, &W::from(inner?))
-}
-
-fn string_of(alloc: Global, name: &str, text: &str) -> Result<Answer> {
-    match name {
-        "utf8" => wrapped::<_, Utf8StringAsn1>(alloc, Utf8String::from_str(alloc, text)),
-        "numeric" => wrapped::<_, NumericStringAsn1>(alloc, NumericString::from_str(alloc, text)),
-        "printable" => {
-            wrapped::<_, PrintableStringAsn1>(alloc, PrintableString::from_str(alloc, text))
-        }
-        "ia5" => wrapped::<_, Ia5StringAsn1>(alloc, Ia5String::from_str(alloc, text)),
-        "general" => wrapped::<_, GeneralStringAsn1>(alloc, Ia5String::from_str(alloc, text)),
-        "bmp" => wrapped::<_, BmpStringAsn1>(alloc, BmpString::from_str(alloc, text)),
-        _ => bail!("no such type"),
+fn of_type(alloc: Global, call: &str, words: &mut Words<'_>) -> Result<Answer> {
+    match words.next() {
+        "utf8" => of_texts::<Utf8StringAsn1, Utf8CharSet>(alloc, call, words),
+        "numeric" => of_texts::<NumericStringAsn1, NumericCharSet>(alloc, call, words),
+        "printable" => of_texts::<PrintableStringAsn1, PrintableCharSet>(alloc, call, words),
+        "ia5" => of_texts::<Ia5StringAsn1, Ia5CharSet>(alloc, call, words),
+        "general" => of_texts::<GeneralStringAsn1, Ia5CharSet>(alloc, call, words),
+        "bmp" => of_bmp(alloc, call, words),
+        _ => bad_row("no such type"),
     }
 }
 
-fn inner_text<K: Asn1Type, C: Utf8Set>(
-    alloc: Global,
-    string: Result<StringAsn1<K, C>, DerError>,
-) -> Result<Answer> {
-    let inner: RestrictedString<C> = RestrictedString::from(string?);
+// The calls of the strings W of a set C that is a part of UTF-8.
+fn of_texts<W, C>(alloc: Global, call: &str, words: &mut Words<'_>) -> Result<Answer>
+where
+    W: From<RestrictedString<C>> + DerRead + DerWrite + CopyIn + PartialEq + Drop,
+    C: Utf8Set,
+    RestrictedString<C>: From<W>,
+{
+    match call {
+        "of" => written(
+            alloc,
+            &W::from(RestrictedString::<C>::from_str(alloc, words.rest())?),
+        ),
+        "text" => text_of::<W, C>(alloc, words),
+        _ => bad_row("no such call"),
+    }
+}
+
+fn text_of<W: DerRead + Drop, C: Utf8Set>(alloc: Global, words: &mut Words<'_>) -> Result<Answer>
+where
+    RestrictedString<C>: From<W>,
+{
+    let string: W = next_value(alloc, words)?;
+    let inner: RestrictedString<C> = RestrictedString::from(string);
     Answer::text(alloc, inner.as_utf8())
 }
 
-fn bmp_text(alloc: Global, bytes: &[u8]) -> Result<Answer> {
-    let string: BmpStringAsn1 = from_bytes(alloc, bytes)?;
-    Ok(Answer::Text(BmpString::from(string).to_utf8(alloc)?))
-}
-
-fn text_of(alloc: Global, name: &str, bytes: &[u8]) -> Result<Answer> {
-    match name {
-        "utf8" => inner_text(alloc, from_bytes::<Utf8StringAsn1>(alloc, bytes)),
-        "numeric" => inner_text(alloc, from_bytes::<NumericStringAsn1>(alloc, bytes)),
-        "printable" => inner_text(alloc, from_bytes::<PrintableStringAsn1>(alloc, bytes)),
-        "ia5" => inner_text(alloc, from_bytes::<Ia5StringAsn1>(alloc, bytes)),
-        "general" => inner_text(alloc, from_bytes::<GeneralStringAsn1>(alloc, bytes)),
-        "bmp" => bmp_text(alloc, bytes),
-        _ => bail!("no such type"),
+fn of_bmp(alloc: Global, call: &str, words: &mut Words<'_>) -> Result<Answer> {
+    match call {
+        "of" => written(
+            alloc,
+            &BmpStringAsn1::from(BmpString::from_str(alloc, words.rest())?),
+        ),
+        "text" => bmp_text(alloc, words),
+        _ => bad_row("no such call"),
     }
 }
 
-fn changed(alloc: Global, text: &str) -> Result<Answer> {
+fn bmp_text(alloc: Global, words: &mut Words<'_>) -> Result<Answer> {
+    let string: BmpStringAsn1 = next_value(alloc, words)?;
+    let inner = BmpString::from(string);
+    Ok(Answer::Text(inner.to_utf8(alloc)?))
+}
+
+fn changed(alloc: Global, words: &mut Words<'_>) -> Result<Answer> {
     let mut string = Ia5StringAsn1::empty(alloc)?;
-    *string = Ia5String::from_str(alloc, text)?;
+    *string = Ia5String::from_str(alloc, words.rest())?;
     written(alloc, &string)
 }
 
 pub fn bits(alloc: Global, call: &str, words: &mut Words<'_>) -> Result<Answer> {
     match call {
-        "of" => bits_of(alloc, words.size()?, words.size()?),
-        "count" => count(alloc, &words.bytes(alloc)?),
-        _ => bail!("no such call"),
+        "of" => bits_of(alloc, words),
+        "count" => Ok(Answer::Size(next_value::<BitStringAsn1>(alloc, words)?.get_num_bits())),
+        _ => bad_row("no such call"),
     }
 }
 
-fn bits_of(alloc: Global, count: usize, index: usize) -> Result<Answer> {
-    let mut bits = BitStringAsn1::from(BitString::with_len(alloc, count)?);
+fn bits_of(alloc: Global, words: &mut Words<'_>) -> Result<Answer> {
+    let mut bits = BitStringAsn1::from(BitString::with_len(alloc, words.size()?)?);
+    let index = words.size()?;
     if bits.get_num_bits() <= index {
-        bail!("there is no such bit");
+        return bad_row("there is no such bit");
     }
     bits.set(index, true);
-    if BitString::from(bits.clone(alloc)?) != *bits {
-        bail!("the bits that are given back are others");
+    if !is_given_back(alloc, &bits)? {
+        return bad_row("the bits that are given back are others");
     }
     written(alloc, &bits)
 }
 
-fn count(alloc: Global, bytes: &[u8]) -> Result<Answer> {
-    let bits: BitStringAsn1 = from_bytes(alloc, bytes)?;
-    Ok(Answer::Size(bits.get_num_bits()))
+fn is_given_back(alloc: Global, bits: &BitStringAsn1) -> Result<bool> {
+    let given = BitString::from(bits.clone(alloc)?);
+    Ok(given == **bits)
 }
 
 pub fn identifier(alloc: Global, call: &str, words: &mut Words<'_>) -> Result<Answer> {
     match call {
-        "of" => identifier_of(alloc, words.next()),
-        "changed" => identifier_changed(alloc, words.next(), words.next()),
-        "text" => identifier_text(alloc, &words.bytes(alloc)?),
-        _ => bail!("no such call"),
+        "of" => identifier_of(alloc, words),
+        "changed" => identifier_changed(alloc, words),
+        "text" => identifier_text(alloc, words),
+        _ => bad_row("no such call"),
     }
 }
 
-fn identifier_of(alloc: Global, text: &str) -> Result<Answer> {
-    let identifier = ObjectIdentifierAsn1::from(ObjectIdentifier::from_text(alloc, text)?);
+fn identifier_of(alloc: Global, words: &mut Words<'_>) -> Result<Answer> {
+    let identifier = ObjectIdentifier::from_text(alloc, words.next())?;
+    written(alloc, &ObjectIdentifierAsn1::from(identifier))
+}
+
+fn identifier_changed(alloc: Global, words: &mut Words<'_>) -> Result<Answer> {
+    let first = ObjectIdentifier::from_text(alloc, words.next())?;
+    let mut identifier = ObjectIdentifierAsn1::from(first);
+    *identifier = ObjectIdentifier::from_text(alloc, words.next())?;
     written(alloc, &identifier)
 }
 
-fn identifier_changed(alloc: Global, first: &str, second: &str) -> Result<Answer> {
-    let mut identifier = ObjectIdentifierAsn1::from(ObjectIdentifier::from_text(alloc, first)?);
-    *identifier = ObjectIdentifier::from_text(alloc, second)?;
-    written(alloc, &identifier)
-}
-
-fn identifier_text(alloc: Global, bytes: &[u8]) -> Result<Answer> {
-    let identifier: ObjectIdentifierAsn1 = from_bytes(alloc, bytes)?;
-    Ok(Answer::Text(ObjectIdentifier::from(identifier).to_text(alloc)?))
+fn identifier_text(alloc: Global, words: &mut Words<'_>) -> Result<Answer> {
+    let identifier: ObjectIdentifierAsn1 = next_value(alloc, words)?;
+    let inner = ObjectIdentifier::from(identifier);
+    Ok(Answer::Text(inner.to_text(alloc)?))
 }

@@ -13,11 +13,12 @@ ghost use Rattle.picky_der.specs.Natural.{natural_contents};
 ghost use Rattle.picky_der.specs.laws.Natural.{natural_readable, natural_writable};
 ghost use Rattle.picky_asn1_wrapper.specs.laws.Equal.{nat_equal};
 
-use crate::der::faults::{bytes_or_refusal, refusal};
-use anyhow::{Result, bail};
+use crate::der::faults::refusal;
+use crate::der::plain::{self, bad_row, nested, sequence_of};
+use anyhow::Result;
 use picky_asn1_tag::{Asn1Value, Empty, Tag};
 use picky_asn1_wrapper::{EqualMeaning, ExplicitContextTag0, Optional};
-use picky_der::{DerError, DerForm, DerRead, DerReader, DerWrite, write_value};
+use picky_der::{DerError, DerForm, DerRead, DerReader, DerWrite};
 use rows::{Answer, Words};
 use std::alloc::{AllocError, Global};
 
@@ -77,63 +78,59 @@ impl DerWrite for Ten {
 
 pub fn answer(alloc: Global, call: &str, words: &mut Words<'_>) -> Result<Answer> {
     match call {
-        "read" => read(alloc, &words.bytes(alloc)?),
-        "write" => bytes_or_refusal(alloc, write(alloc, words.parsed()?)),
-        "is_default" => is_default(alloc, words.parsed()?),
-        "write_two" => bytes_or_refusal(alloc, write_two(alloc, words.parsed()?, words.parsed()?)),
-        "read_two" => read_two(alloc, &words.bytes(alloc)?),
-        _ => bail!("no such call"),
+        "read" => read(alloc, words),
+        "write" => Answer::bytes(alloc, &sequence_of(alloc, &write_next(alloc, words)?)?),
+        "is_default" => Ok(Answer::Truth(Optional(Ten(words.parsed()?)).is_default(alloc)?)),
+        "write_two" => write_two(alloc, words),
+        "read_two" => read_two(alloc, words),
+        _ => bad_row("no such call"),
     }
 }
 
-fn is_default(alloc: Global, number: u8) -> Result<Answer> {
-    Ok(Answer::Truth(Optional(Ten(number)).is_default(alloc)?))
+// The field of the next number.
+fn write_next(alloc: Global, words: &mut Words<'_>) -> Result<Vec<u8>> {
+    let field = Optional(Ten(words.parsed()?));
+    let mut fields = Vec::new(alloc);
+    field.write_in(alloc, &mut fields)?;
+    Ok(fields)
 }
 
-fn field(alloc: Global, bytes: &[u8]) -> Result<u8, DerError> {
+fn write_two(alloc: Global, words: &mut Words<'_>) -> Result<Answer> {
+    let mut fields = write_next(alloc, words)?;
+    let tagged: u8 = words.parsed()?;
+    plain::write(alloc, &ExplicitContextTag0::from(tagged), &mut fields)?;
+    Answer::bytes(alloc, &sequence_of(alloc, &fields)?)
+}
+
+fn one(alloc: Global, bytes: &[u8]) -> Result<u8, DerError> {
     let mut reader = DerReader::new(bytes);
-    let mut fields = reader.nested(Tag::SEQUENCE)?;
+    let mut fields = nested(&mut reader)?;
     let Optional(Ten(number)) = Optional::read_in(alloc, &mut fields)?;
     fields.end()?;
     reader.end()?;
     Ok(number)
 }
 
-fn read(alloc: Global, bytes: &[u8]) -> Result<Answer> {
-    match field(alloc, bytes) {
-        Ok(number) => Ok(Answer::Number(i128::from(number))),
+fn read(alloc: Global, words: &mut Words<'_>) -> Result<Answer> {
+    let bytes = words.bytes(alloc)?;
+    match one(alloc, &bytes) {
+        Ok(number) => Ok(Answer::Size(number as usize)),
         Err(fault) => refusal(fault),
     }
 }
 
-fn write(alloc: Global, number: u8) -> Result<Vec<u8>, DerError> {
-    let mut fields = Vec::new(alloc);
-    Optional(Ten(number)).write_in(alloc, &mut fields)?;
-    let mut out = Vec::new(alloc);
-    write_value(&mut out, Tag::SEQUENCE, &fields)?;
-    Ok(out)
-}
-
-fn write_two(alloc: Global, number: u8, tagged: u8) -> Result<Vec<u8>, DerError> {
-    let mut fields = Vec::new(alloc);
-    Optional(Ten(number)).write_in(alloc, &mut fields)?;
-    ExplicitContextTag0::from(tagged).write_der(alloc, &mut fields)?;
-    let mut out = Vec::new(alloc);
-    write_value(&mut out, Tag::SEQUENCE, &fields)?;
-    Ok(out)
-}
-
 fn two(alloc: Global, bytes: &[u8]) -> Result<(u8, u8), DerError> {
-    let mut fields = DerReader::new(bytes).nested(Tag::SEQUENCE)?;
+    let mut fields = nested(&mut DerReader::new(bytes))?;
     let Optional(Ten(number)) = Optional::read_in(alloc, &mut fields)?;
-    let tagged: ExplicitContextTag0<u8> = ExplicitContextTag0::read_der(alloc, &mut fields)?;
+    let tagged: ExplicitContextTag0<u8> = plain::read(alloc, &mut fields)?;
     fields.end()?;
     Ok((number, tagged.0))
 }
 
-fn read_two(alloc: Global, bytes: &[u8]) -> Result<Answer> {
-    match two(alloc, bytes) {
-        Ok((number, tagged)) => { Answer::numbers(alloc, &[u64::from(number), u64::from(tagged)]) }
+fn read_two(alloc: Global, words: &mut Words<'_>) -> Result<Answer> {
+    let bytes = words.bytes(alloc)?;
+    match two(alloc, &bytes) {
+        Ok((number, tagged)) => Answer::numbers(alloc, &[number as u64, tagged as u64]),
         Err(fault) => refusal(fault),
     }
 }

@@ -12,45 +12,48 @@
 //     der_tagged.optional N N           as a field that is left out where it is 0
 //     der_tagged.header                 the header of a value under [0]
 //     der_tagged.implicit_octets BYTES  octets under [0]
-use crate::der::faults::bytes_or_refusal;
+use crate::der::plain::bad_row;
 use crate::der::values::written;
-use anyhow::{Context, Result, bail};
+use anyhow::Result;
 use picky_asn1_bits::OctetStringAsn1;
+use picky_asn1_tag::CopyIn;
 use picky_asn1_wrapper::{
     Asn1SequenceOf, Asn1SetOf, BitStringAsn1Container, ExplicitContextTag0, ExplicitContextTag1,
     HeaderOnly, ImplicitContextTag0, ImplicitContextTag2, OctetStringAsn1Container, Optional,
 };
-use picky_der::DerError;
+use picky_der::{DerRead, DerWrite};
 use rows::{Answer, Words};
 use std::alloc::Global;
 use std::ops::DerefMut;
 
 pub fn list(alloc: Global, call: &str, words: &mut Words<'_>) -> Result<Answer> {
     match call {
-        "sequence" => written(alloc, &numbers(alloc, words)?),
-        "bits" => written(alloc, &BitStringAsn1Container(numbers(alloc, words)?)),
-        "octets" => written(alloc, &OctetStringAsn1Container(numbers(alloc, words)?)),
-        "push" => push(alloc, words.parsed()?, words),
-        "push_to_set" => push_to_set(alloc, words.truth()?, words),
-        _ => bail!("no such call"),
+        "push_to_set" => push_to_set(alloc, words),
+        "push" => push(alloc, words),
+        "sequence" => written(alloc, &sequence(alloc, words)?),
+        "bits" => written(alloc, &BitStringAsn1Container(sequence(alloc, words)?)),
+        "octets" => written(alloc, &OctetStringAsn1Container(sequence(alloc, words)?)),
+        _ => bad_row("no such call"),
     }
 }
 
-fn numbers(alloc: Global, words: &mut Words<'_>) -> Result<Asn1SequenceOf<u32>> {
+fn sequence(alloc: Global, words: &mut Words<'_>) -> Result<Asn1SequenceOf<u32>> {
     let mut items = Vec::new(alloc);
     for word in words.rest().split(' ') {
-        items.push(word.parse::<u32>().ok().context("no number")?)?;
+        items.push(Words::new(word).parsed()?)?;
     }
     Ok(Asn1SequenceOf(items))
 }
 
-fn push(alloc: Global, number: u32, words: &mut Words<'_>) -> Result<Answer> {
-    let mut list = numbers(alloc, words)?;
+fn push(alloc: Global, words: &mut Words<'_>) -> Result<Answer> {
+    let number = words.parsed()?;
+    let mut list = sequence(alloc, words)?;
     list.deref_mut().push(number)?;
     written(alloc, &list)
 }
 
-fn push_to_set(alloc: Global, truth: bool, words: &mut Words<'_>) -> Result<Answer> {
+fn push_to_set(alloc: Global, words: &mut Words<'_>) -> Result<Answer> {
+    let truth = words.truth()?;
     let mut set = Asn1SetOf(Vec::new(alloc));
     set.deref_mut().push(words.truth()?)?;
     set.deref_mut().push(truth)?;
@@ -60,56 +63,34 @@ fn push_to_set(alloc: Global, truth: bool, words: &mut Words<'_>) -> Result<Answ
 pub fn tagged(alloc: Global, call: &str, words: &mut Words<'_>) -> Result<Answer> {
     match call {
         "header" => written(alloc, &HeaderOnly::<ExplicitContextTag0<u8>>::new()),
-        "implicit_octets" => implicit_octets(alloc, words.bytes(alloc)?),
-        _ => changed(alloc, call, words.parsed()?, words.parsed()?),
+        "implicit_octets" => {
+            let octets = OctetStringAsn1::from(words.bytes(alloc)?);
+            written(alloc, &ImplicitContextTag0::from(octets))
+        }
+        "explicit" => changed::<ExplicitContextTag1<u32>>(alloc, words),
+        "implicit" => changed::<ImplicitContextTag2<u32>>(alloc, words),
+        "bits" => changed::<BitStringAsn1Container<u32>>(alloc, words),
+        "octets" => changed::<OctetStringAsn1Container<u32>>(alloc, words),
+        "optional" => optional(alloc, words),
+        _ => bad_row("no such call"),
     }
 }
 
-fn implicit_octets(alloc: Global, bytes: Vec<u8>) -> Result<Answer> {
-    let octets = OctetStringAsn1::from(bytes);
-    written(alloc, &ImplicitContextTag0::<OctetStringAsn1>::from(octets))
+// A value made of the first number and changed in place to the second.
+fn changed<W>(alloc: Global, words: &mut Words<'_>) -> Result<Answer>
+where
+    W: From<u32> + DerefMut<Target = u32> + DerRead + DerWrite + CopyIn + PartialEq + Drop,
+{
+    let mut value = W::from(words.parsed()?);
+    *value = words.parsed()?;
+    written(alloc, &value)
 }
 
-fn changed(alloc: Global, call: &str, from: u32, to: u32) -> Result<Answer> {
-    match call {
-        "explicit" => explicit(alloc, from, to),
-        "implicit" => implicit(alloc, from, to),
-        "bits" => bits(alloc, from, to),
-        "octets" => octets(alloc, from, to),
-        "optional" => bytes_or_refusal(alloc, optional(alloc, from, to)),
-        _ => bail!("no such call"),
-    }
-}
-
-fn explicit(alloc: Global, from: u32, to: u32) -> Result<Answer> {
-    let mut tagged: ExplicitContextTag1<u32> = ExplicitContextTag1::from(from);
-    *tagged = to;
-    written(alloc, &tagged)
-}
-
-fn implicit(alloc: Global, from: u32, to: u32) -> Result<Answer> {
-    let mut tagged: ImplicitContextTag2<u32> = ImplicitContextTag2::from(from);
-    *tagged = to;
-    written(alloc, &tagged)
-}
-
-fn bits(alloc: Global, from: u32, to: u32) -> Result<Answer> {
-    let mut container = BitStringAsn1Container(from);
-    *container = to;
-    written(alloc, &container)
-}
-
-fn octets(alloc: Global, from: u32, to: u32) -> Result<Answer> {
-    let mut container = OctetStringAsn1Container(from);
-    *container = to;
-    written(alloc, &container)
-}
-
-fn optional(alloc: Global, from: u32, to: u32) -> Result<Vec<u8>, DerError> {
-    let mut field = Optional(from);
-    *field = to;
+fn optional(alloc: Global, words: &mut Words<'_>) -> Result<Answer> {
+    let mut field = Optional(words.parsed::<u32>()?);
+    *field = words.parsed()?;
     let copy = field.clone(alloc)?;
     let mut fields = Vec::new(alloc);
     copy.write_in(alloc, &mut fields)?;
-    Ok(fields)
+    Answer::bytes(alloc, &fields)
 }

@@ -7,13 +7,11 @@
 //     http.given MOMENT LEEWAY STRING MESSAGE SIGNATURE TEXT    the same over a signing string that is given
 //
 // A moment that isn't set is `-`, no request is `none`.
-use crate::found::{found, outcome};
+use crate::requests::head_of;
+use crate::shown::{both, debugged, found, outcome};
 use anyhow::{Result, bail};
 use picky_base64::{Form, encode};
-use picky_http::{
-    HeadFault, HttpRequest, HttpSignature, HttpSignatureError, HttpSignatureVerifier, NoRequest,
-    RequestHead, read_head,
-};
+use picky_http::{HttpRequest, HttpSignature, HttpSignatureVerifier, NoRequest, read_head};
 use picky_key::{EdAlgorithm, PublicKey, SignatureAlgorithm};
 use picky_records::Recorded;
 use rows::{Answer, Words};
@@ -23,7 +21,7 @@ const SPKI: &str = "MCowBQYDK2VwAyEAAAAAAAAAAAAAAAAAAAAAAAAAAAAAAAAAAAAAAAAAAAA"
 
 pub(crate) fn answer(alloc: Global, call: &str, words: &mut Words<'_>) -> Result<Answer> {
     match call {
-        "read" => read(alloc, HttpSignature::from_str(alloc, words.rest())),
+        "read" => read(alloc, words.rest()),
         "head" => head(alloc, words),
         "verify" => verify(alloc, words),
         "given" => given(alloc, words),
@@ -31,23 +29,13 @@ pub(crate) fn answer(alloc: Global, call: &str, words: &mut Words<'_>) -> Result
     }
 }
 
-fn read(alloc: Global, signature: Result<HttpSignature, HttpSignatureError>) -> Result<Answer> {
-    match signature {
-        Ok(signature) => Answer::debug(alloc, &signature),
-        Err(error) => Answer::debug(alloc, &error),
-    }
+fn read(alloc: Global, text: &str) -> Result<Answer> {
+    debugged(alloc, HttpSignature::from_str(alloc, text))
 }
 
 fn head(alloc: Global, words: &mut Words<'_>) -> Result<Answer> {
     let bytes = words.bytes(alloc)?;
-    told(alloc, read_head(alloc, &bytes))
-}
-
-fn told(alloc: Global, head: Result<RequestHead, HeadFault>) -> Result<Answer> {
-    match head {
-        Ok(head) => Answer::debug(alloc, &head),
-        Err(fault) => Answer::debug(alloc, &fault),
-    }
+    debugged(alloc, read_head(alloc, &bytes))
 }
 
 // The moment and the leeway of the next two words.
@@ -85,9 +73,10 @@ pub(crate) struct Asked {
 
 // What is asked of the next three words.
 pub(crate) fn asked_of(alloc: Global, dates: Dates, words: &mut Words<'_>) -> Result<Asked> {
-    let provider = recorded(alloc, words)?;
-    let signature = signature(alloc, words.rest())?;
-    let key = key(alloc)?;
+    let provider = recorded(alloc, words);
+    let signature = HttpSignature::from_str(alloc, words.rest()).ok();
+    let signature = found(signature, "no such signature");
+    let ((provider, signature), key) = both(both(provider, signature), key(alloc))?;
     Ok(Asked {
         signature,
         provider,
@@ -96,33 +85,17 @@ pub(crate) fn asked_of(alloc: Global, dates: Dates, words: &mut Words<'_>) -> Re
     })
 }
 
-// The text of bytes.
-pub(crate) fn url_text(alloc: Global, bytes: &[u8]) -> Result<String> {
-    found(encode(alloc, Form::Url, bytes).ok(), "no memory")
-}
-
 // The text of the bytes of the next word.
-pub(crate) fn url_word(alloc: Global, words: &mut Words<'_>) -> Result<String> {
+fn url_word(alloc: Global, words: &mut Words<'_>) -> Result<String> {
     let bytes = words.bytes(alloc)?;
-    url_text(alloc, &bytes)
+    found(encode(alloc, Form::Url, &bytes).ok(), "no memory")
 }
 
 // The provider that recorded the signature of the next two words.
 fn recorded(alloc: Global, words: &mut Words<'_>) -> Result<Recorded> {
     let message = url_word(alloc, words)?;
     let signature = url_word(alloc, words)?;
-    recorded_as(alloc, "ed25519-sha512", SPKI, &message, &signature)
-}
-
-// The provider of one recorded signature.
-pub(crate) fn recorded_as(
-    alloc: Global,
-    algorithm: &str,
-    spki: &str,
-    message: &str,
-    signature: &str,
-) -> Result<Recorded> {
-    let line = format!(in alloc; "sig {algorithm} {spki} {message} {signature}\n")?;
+    let line = format!(in alloc; "sig ed25519-sha512 {SPKI} {message} {signature}\n")?;
     found(Recorded::read(alloc, &line).ok(), "no such record")
 }
 
@@ -132,94 +105,68 @@ fn key(alloc: Global) -> Result<PublicKey> {
     found(key.ok(), "no such key")
 }
 
-fn signature(alloc: Global, text: &str) -> Result<HttpSignature> {
-    let signature = HttpSignature::from_str(alloc, text);
-    found(signature.ok(), "no such signature")
-}
-
 fn verify(alloc: Global, words: &mut Words<'_>) -> Result<Answer> {
     let dates = moment(words)?;
     let bytes = words.next();
     let asked = asked_of(alloc, dates, words)?;
-    over_bytes(alloc, bytes, &asked)
+    let answer = over_bytes(alloc, bytes, &asked);
+    drop(asked);
+    answer
 }
 
 fn over_bytes(alloc: Global, bytes: &str, asked: &Asked) -> Result<Answer> {
     match bytes {
-        "none" => over_none(alloc, asked),
+        "none" => over(alloc, &NoRequest, asked),
         _ => over_head(alloc, bytes, asked),
     }
 }
 
-fn over_none(alloc: Global, asked: &Asked) -> Result<Answer> {
-    over(alloc, &NoRequest, asked)
-}
-
 fn over_head(alloc: Global, bytes: &str, asked: &Asked) -> Result<Answer> {
     let head = head_of(alloc, &mut Words::new(bytes))?;
-    over(alloc, &head, asked)
-}
-
-// The request head that the bytes of the next word begin with.
-pub(crate) fn head_of(alloc: Global, words: &mut Words<'_>) -> Result<RequestHead> {
-    let bytes = words.bytes(alloc)?;
-    found(read_head(alloc, &bytes).ok(), "no such head")
+    let answer = over(alloc, &head, asked);
+    drop(head);
+    answer
 }
 
 pub(crate) fn over<Q: HttpRequest>(alloc: Global, request: &Q, asked: &Asked) -> Result<Answer> {
-    let mut verifier = dated_verifier(asked);
+    let mut verifier = asked.signature.verifier();
     verifier.generate_signing_string_using_http_request(request);
-    decided(alloc, verifier, &asked.provider)
+    let answer = decided(alloc, &mut verifier, asked);
+    drop(verifier);
+    answer
 }
 
 fn given(alloc: Global, words: &mut Words<'_>) -> Result<Answer> {
     let dates = moment(words)?;
     let string = words.text(alloc)?;
     let asked = asked_of(alloc, dates, words)?;
-    over_text(alloc, &string, &asked)
+    let answer = over_text(alloc, &string, &asked);
+    drop(asked);
+    answer
 }
 
 fn over_text(alloc: Global, string: &str, asked: &Asked) -> Result<Answer> {
-    let mut verifier = dated_verifier::<NoRequest>(asked);
+    let mut verifier = asked.signature.verifier::<NoRequest>();
     verifier.pre_generated_signing_string(string);
-    decided(alloc, verifier, &asked.provider)
+    let answer = decided(alloc, &mut verifier, asked);
+    drop(verifier);
+    answer
 }
 
-// The verifier, with its key and its dates.
-fn dated_verifier<Q: HttpRequest>(asked: &Asked) -> HttpSignatureVerifier<'_, Q> {
-    let verifier = within(verifier_of(asked), asked.dates.leeway);
-    match asked.dates.now {
-        Some(now) => at(verifier, now),
-        None => verifier,
-    }
-}
-
-fn verifier_of<Q: HttpRequest>(asked: &Asked) -> HttpSignatureVerifier<'_, Q> {
-    let mut verifier = asked.signature.verifier();
-    verifier.signature_method(&asked.key, SignatureAlgorithm::Ed25519);
-    verifier
-}
-
-fn within<Q: HttpRequest>(
-    mut verifier: HttpSignatureVerifier<'_, Q>,
-    leeway: u64,
-) -> HttpSignatureVerifier<'_, Q> {
-    verifier.leeway(leeway);
-    verifier
-}
-
-fn at<Q: HttpRequest>(
-    mut verifier: HttpSignatureVerifier<'_, Q>,
-    moment: u64,
-) -> HttpSignatureVerifier<'_, Q> {
-    verifier.now(moment);
-    verifier
-}
-
-fn decided<Q: HttpRequest>(
+// What the verifier says, with its key and its dates.
+fn decided<'a, Q: HttpRequest>(
     alloc: Global,
-    mut verifier: HttpSignatureVerifier<'_, Q>,
-    provider: &Recorded,
+    verifier: &mut HttpSignatureVerifier<'a, Q>,
+    asked: &'a Asked,
 ) -> Result<Answer> {
-    outcome(alloc, verifier.verify(alloc, provider))
+    verifier.signature_method(&asked.key, SignatureAlgorithm::Ed25519);
+    verifier.leeway(asked.dates.leeway);
+    set_moment(verifier, asked.dates.now);
+    outcome(alloc, verifier.verify(alloc, &asked.provider))
+}
+
+fn set_moment<Q: HttpRequest>(verifier: &mut HttpSignatureVerifier<'_, Q>, moment: Option<u64>) {
+    if let Some(moment) = moment {
+        verifier.now(moment);
+    }
 }

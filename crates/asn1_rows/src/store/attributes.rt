@@ -1,18 +1,17 @@
 // What attributes hold.
-use crate::{bad_row, refusal, value_of};
+//
+//     attribute.holds BYTES       the name or the id that an attribute is, `unknown` for another, or the fault
+use crate::bad_row;
+use crate::store::{refusal, value_of};
 use anyhow::Result;
 use picky_asn1_x509::Pkcs12Attribute;
 use rows::{Answer, Words};
 use std::alloc::Global;
 
-pub fn answer(alloc: Global, call: &str, words: &mut Words<'_>) -> Result<Answer> {
-    match call {
-        "holds" => holds(alloc, words),
-        _ => bad_row("no such call"),
+pub(crate) fn answer(alloc: Global, call: &str, words: &mut Words<'_>) -> Result<Answer> {
+    if call != "holds" {
+        return bad_row("no such call");
     }
-}
-
-fn holds(alloc: Global, words: &mut Words<'_>) -> Result<Answer> {
     let bytes = words.bytes(alloc)?;
     match value_of(alloc, &bytes) {
         Ok(attribute) => held(alloc, &attribute),
