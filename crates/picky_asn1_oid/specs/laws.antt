@@ -1,1 +1,2 @@
+-- What the laws of object identifiers rest on.
 pub mod Arcs

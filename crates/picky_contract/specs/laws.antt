@@ -1,3 +1,4 @@
+-- What holds of the words of contracts.
 pub mod Cuts
 pub mod Growing
 pub mod Pairs

@@ -1,27 +1,27 @@
 -- Texts that were made under a name of a ring are admissible.
-use Rattle.std.proofs.Common.{◌≡◌, ◌≢◌, ℕ, ◌+◌, ◌<◌, Bool, true, false, ◌==◌, cond, List, [], ◌∷◌, ◌++◌, Option, Some, refl, sym, ◌∙◌, ap, subst, arith, inl, inr, codes}
-use Rattle.std.specs.List.{count_by, sum_by}
+use Rattle.std.proofs.Common.{◌≡◌, ◌≢◌, ℕ, ◌+◌, ◌<◌, ◌==◌, cond, List, [], ◌∷◌, ◌++◌, refl, sym, ◌∙◌, ap, subst, arith, inl, inr, codes}
+use Rattle.std.specs.List.{sum_by}
 use Rattle.std.proofs.lemmas.Bool.{cases_Bool, eqb-true}
 use Rattle.std.proofs.lemmas.List.Elements.{All-head, All-tail}
 use Rattle.std.proofs.lemmas.List.Sums.{sum_by-append, sum_by-cons}
 use Rattle.serde_json.specs.Data.{Data}
 use Rattle.picky_contract.specs.Text.{Lacks}
-use Rattle.picky_base64.specs.Base64.{B64, encoding}
+use Rattle.picky_base64.specs.Base64.{B64}
 use Rattle.picky_base64.specs.declared.Form.TheVariants.{Url}
 use Rattle.picky_json.specs.Tree.{Tree, FloatFree}
 use Rattle.picky_key.specs.Signatures.{Relation}
 use Rattle.picky_jws_header.specs.Header.{Header}
 use Rattle.picky_jose.specs.Token.{dot}
 use Rattle.picky_jose.specs.Refusals.{Reading, TokenReading}
-use Rattle.picky_jose.specs.Verified.{VerifiedContent, content_of}
+use Rattle.picky_jose.specs.Verified.{VerifiedContent}
 use Rattle.picky_jose.specs.Views.{Content}
 use Rattle.picky_jose.specs.Claims.{AreInTime}
 use Rattle.picky_http.specs.Lines.{Request}
 use Rattle.picky_ring.specs.declared.ring.RingEntry.{RingEntry}
 use Rattle.picky_ring.specs.TextMap.{TextMap}
 use Rattle.picky_gate.specs.declared.policy.Policy.{Policy}
-use Rattle.picky_gate.specs.Admissible.{Admission, token, Admissible, TokenAdmissible, NamedKey, IsKeyUnder}
-use Rattle.picky_gate.specs.Scheme.{Scheme, bearer, dots_in}
+use Rattle.picky_gate.specs.Admissible.{token, Admissible, NamedKey, IsKeyUnder}
+use Rattle.picky_gate.specs.Scheme.{bearer, dots_in}
 use Rattle.picky_jose.specs.laws.Dots.{lacks_dot}
 
 -- ---- a token that was read has two dots

@@ -1,5 +1,5 @@
 -- Header texts that were made under a name of a ring are admissible.
-use Rattle.std.proofs.Common.{◌≡◌, ◌⊎◌, ℕ, ◌<◌, ◌^◌, Bool, true, false, IsTrue, List, [], ◌∷◌, length, Option, Some, None, IfSome, option_map, refl, sym, ◌∙◌, ap, subst, arith, inl, inr}
+use Rattle.std.proofs.Common.{◌≡◌, ℕ, ◌<◌, ◌^◌, Bool, true, false, IsTrue, List, [], ◌∷◌, length, Option, Some, IfSome, refl, sym, ◌∙◌, ap, subst, arith, inl, inr}
 use Rattle.std.specs.List.{AllByRecursion}
 use Rattle.picky_base64.specs.Base64.{B64}
 use Rattle.picky_key_der.specs.declared.public.PublicKeyKind.{PublicKeyKind}
@@ -8,21 +8,21 @@ use Rattle.picky_key.specs.declared.algorithm.SignatureAlgorithm.{SignatureAlgor
 use Rattle.picky_key.specs.Family.{is_of_family}
 use Rattle.picky_key.specs.Signatures.{Relation}
 use Rattle.picky_http_request.specs.Answers.{Answer}
-use Rattle.picky_http.specs.Algorithms.{Algorithm, known, custom, algorithm_named, algorithm_name}
+use Rattle.picky_http.specs.Algorithms.{Algorithm, known}
 use Rattle.picky_http.specs.Building.{Signer, SigningBy, Draft, asked_by, built, IsContent, IsBuilt}
-use Rattle.picky_http.specs.Content.{Content, asked_content, IsAnswered}
+use Rattle.picky_http.specs.Content.{Content, asked_content}
 use Rattle.picky_http.specs.Lines.{Request, request_of, AreLines}
 use Rattle.picky_http.specs.Parts.{covered}
 use Rattle.picky_http.specs.Printing.{printed, IsBare, IsPlainPart, told_algorithm, as_told, IsTellable}
 use Rattle.picky_http.specs.Reading.{Reading}
-use Rattle.picky_http.specs.Signing.{Part, Line, signing_string}
-use Rattle.picky_http.specs.Verifying.{Origin, asked_of, AlgorithmFits, IsInForce, HasBegun, IsMessage, form_of}
+use Rattle.picky_http.specs.Signing.{Part, signing_string}
+use Rattle.picky_http.specs.Verifying.{asked_of, AlgorithmFits, IsInForce, HasBegun, IsMessage, form_of}
 use Rattle.picky_http.specs.laws.Told.{told_back, told_is}
 use Rattle.picky_ring.specs.declared.ring.RingEntry.{RingEntry}
 use Rattle.picky_ring.specs.TextMap.{TextMap}
 use Rattle.picky_gate.specs.declared.policy.Policy.{Policy}
-use Rattle.picky_gate.specs.Admissible.{Admission, request, Admissible, HeaderAdmissible, NamedKey, IsKeyUnder}
-use Rattle.picky_gate.specs.Scheme.{Scheme, header_text, IsHeader}
+use Rattle.picky_gate.specs.Admissible.{request, Admissible, NamedKey, IsKeyUnder}
+use Rattle.picky_gate.specs.Scheme.{header_text, IsHeader}
 
 some_same : {X : Type 0} (x y : X) → Some x ≡ Some y → x ≡ y
 some_same x y e = cc

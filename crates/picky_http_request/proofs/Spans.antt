@@ -9,7 +9,7 @@ use Rattle.std.proofs.lemmas.Bool.{or_cases, and_parts, eqb-true, ltb-true, leb-
 use Rattle.std.proofs.lemmas.List.{length-map}
 use Rattle.std.proofs.lemmas.List.Elements.{All-from_recursion, recursion_from_All}
 use Rattle.std.proofs.lemmas.Str.{IsUtf8-from_ascii}
-use Rattle.httparse.specs.Grammar.{Field, IsField, IsToken, is_token_byte, field_value}
+use Rattle.httparse.specs.Grammar.{Field, IsField, IsToken, is_token_byte}
 use Rattle.httparse.specs.Spans.{span_bytes, header_bytes, name_and_value}
 use Rattle.httparse.specs.declared.spans.HeaderSpan.{HeaderSpan}
 use Rattle.picky_http_request.specs.Heads.{Head, head_of, lower_field, span_field}

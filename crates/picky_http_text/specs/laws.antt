@@ -1,3 +1,4 @@
+-- The laws of a header text's pieces, values, numbers and places.
 pub mod Pieces
 pub mod Values
 pub mod Numbers

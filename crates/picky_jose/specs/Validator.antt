@@ -1,5 +1,5 @@
 -- Validators of claims: an optional date, and how `nbf` and `exp` are checked (own; RFC 7519, sections 4.1.4 and 4.1.5).
-use Rattle.std.specs.Prelude.{◌≡◌, Bool, true, false, Option, Some, None}
+use Rattle.std.specs.Prelude.{Bool, true, false, Option, Some, None}
 use Rattle.picky_jose.specs.declared.date.JwtDate.{JwtDate}
 use Rattle.picky_jose.specs.declared.date.ClaimCheck.{ClaimCheck}
 use Rattle.picky_jose.specs.declared.date.ClaimCheck.TheVariants.{Ignored, Optional, Required}

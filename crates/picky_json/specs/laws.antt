@@ -1,1 +1,2 @@
+-- The laws of trees.
 pub mod Trees

@@ -1,10 +1,10 @@
 -- Public keys that come back from what is written of them (RFC 7518 section 6; RFC 8037 section 2).
-use Rattle.std.specs.Prelude.{◌≡◌, true}
+use Rattle.std.specs.Prelude.{◌≡◌}
 use Rattle.picky_base64.specs.Base64.{AreBytes}
 use Rattle.picky_key_der.specs.declared.public.PublicKeyKind.{PublicKeyKind}
 use Rattle.picky_key_der.specs.declared.public.PublicKeyKind.TheVariants.{Rsa, Ec, Ed}
 use Rattle.picky_key_der.specs.Ecdsa.{IsNumber}
-use Rattle.picky_key_der.specs.Public.{IsKept, is_point_of}
+use Rattle.picky_key_der.specs.Public.{IsKept}
 use Rattle.picky_jwk_key.specs.Keys.{Key}
 use Rattle.picky_jwk_key.specs.Public.{KeyOfJwk}
 use Rattle.picky_jwk_key.specs.Refusals.{jwk_table}

@@ -1,1 +1,2 @@
+-- The laws of names.
 pub mod Names

@@ -1,3 +1,4 @@
+-- The laws of members: read once, and what is written reads back.
 pub mod Once
 pub mod Stops
 pub mod Lists

@@ -1,5 +1,5 @@
 -- A printed header text under a known algorithm tells what was printed, whether the algorithm has a name or not.
-use Rattle.std.proofs.Common.{◌≡◌, ◌⊎◌, ℕ, Bool, true, false, IsTrue, refl, sym, ap, subst, inl, inr, Option, Some, None, IfSome, option_map, codes, List}
+use Rattle.std.proofs.Common.{◌≡◌, ◌⊎◌, ℕ, Bool, true, false, IsTrue, refl, sym, ap, subst, inl, inr, Option, Some, None, IfSome, codes, List}
 use Rattle.std.proofs.lemmas.Bool.{false≢true}
 use Rattle.picky_key.specs.declared.algorithm.HashAlgorithm.{HashAlgorithm}
 use Rattle.picky_key.specs.declared.algorithm.HashAlgorithm.TheVariants as hash

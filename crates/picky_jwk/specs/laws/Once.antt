@@ -2,7 +2,7 @@
 use Rattle.std.proofs.Common.{◌≡◌, ℕ, List, codes, sym, ◌∙◌, refl, false, true≢false}
 use Rattle.std.specs.Str.{bytes_eq}
 use Rattle.std.proofs.lemmas.Slice.Eq.{bytes_eq-Decides}
-use Rattle.serde_json.specs.Data.{Data, null, string}
+use Rattle.serde_json.specs.Data.{Data}
 use Rattle.picky_json.specs.Tree.{member}
 use Rattle.picky_members.specs.Members.{IsMember, IsText, IsList}
 use Rattle.picky_members.specs.laws.Once.{Once, NotNull, member_once, optional_once, either_once, list_once}
@@ -10,7 +10,7 @@ use Rattle.picky_members.specs.laws.Lists.{list_not_null}
 use Rattle.picky_jwk_names.specs.Names.{IsJwa, IsUse, IsOperation, IsCurve, IsEdCurve}
 use Rattle.picky_jwk_names.specs.laws.Names.{jwa_once, use_once, ops_once, curve_once, ed_once}
 use Rattle.picky_jwk_key.specs.Keys.{RsaKey, EcKey, EdKey, Key, rsa, ec, ed, oct}
-use Rattle.picky_jwk.specs.Jwk.{HasType, RsaKeyOf, EcKeyOf, EdKeyOf, KeyOf, Jwk, JwkOf, JwkSetOf}
+use Rattle.picky_jwk.specs.Jwk.{HasType, RsaKeyOf, EcKeyOf, EdKeyOf, KeyOf, JwkOf, JwkSetOf}
 
 text_once : Once IsText
 text_once d x y h k = cc

@@ -1,7 +1,7 @@
 -- The tree of a key nests at most two levels deep.
 use Rattle.std.proofs.Common.{◌≤◌, List, arith}
-use Rattle.serde_json.specs.Data.{string, no_members, put, depth, members_depth}
-use Rattle.picky_members.specs.Writing.{list_tree, put_table}
+use Rattle.serde_json.specs.Data.{string, no_members, depth}
+use Rattle.picky_members.specs.Writing.{put_table}
 use Rattle.picky_members.specs.laws.Shallow.{AllShallow, shallow_table, shallow_option, shallow_list}
 use Rattle.picky_jwk_names.specs.Names.{jwa_name, use_name, ops_name}
 use Rattle.picky_jwk_key.specs.Keys.{Key, rsa, ec, ed, oct}

@@ -1,6 +1,6 @@
 -- The tree of a key tells the key.
 use Rattle.std.proofs.Common.{◌≡◌, ℕ, List, codes, Option, None, Some, option_map, refl, sym, ap, ◌∙◌}
-use Rattle.serde_json.specs.Data.{Data, object, Members, no_members, string, put}
+use Rattle.serde_json.specs.Data.{Data, object, Members, no_members, string}
 use Rattle.serde_json.specs.Find.{get_member}
 use Rattle.serde_json.proofs.Views.{get_member-put}
 use Rattle.picky_members.specs.Writing.{list_tree, put_table}

@@ -1,7 +1,7 @@
 -- Public keys come back from what is written of them.
-use Rattle.std.proofs.Common.{◌≡◌, ℕ, zero, suc, ◌+◌, ◌*◌, ◌-◌, ◌<◌, ◌≤◌, true, false, cond, List, [], ◌∷◌, ◌++◌, length, take, drop, refl, sym, ap, ◌∙◌, subst, arith, inl, inr}
-use Rattle.std.specs.Prelude.{replicate, nat_lt, ◌==◌, ◌&&◌, ◌||◌}
-use Rattle.std.proofs.lemmas.Bool.{cases_lt, cases_eq, le-ltb, lt-ltb}
+use Rattle.std.proofs.Common.{◌≡◌, ℕ, zero, suc, ◌+◌, ◌*◌, ◌-◌, ◌<◌, ◌≤◌, true, false, cond, List, [], ◌∷◌, ◌++◌, length, take, drop, refl, sym, ap, subst, arith, inl, inr}
+use Rattle.std.specs.Prelude.{replicate, ◌==◌}
+use Rattle.std.proofs.lemmas.Bool.{cases_eq, le-ltb, lt-ltb}
 use Rattle.std.proofs.lemmas.Bool.Decides.{nat_tests}
 use Rattle.std.proofs.lemmas.List.{take-append-drop, length-take, length-drop}
 use Rattle.picky_asn1_bits.proofs.Numbers.{positive}
@@ -15,13 +15,12 @@ use Rattle.picky_key_der.specs.declared.algorithm.EdAlgorithm.TheVariants.{Ed255
 use Rattle.picky_key_der.specs.declared.algorithm.NamedEcCurve.TheVariants.{Known, Unsupported}
 use Rattle.picky_key_der.specs.declared.public.PublicKeyKind.{PublicKeyKind}
 use Rattle.picky_key_der.specs.declared.public.PublicKeyKind.TheVariants.{Rsa, Ec, Ed}
-use Rattle.picky_key_der.specs.Ecdsa.{padded, IsNumber}
+use Rattle.picky_key_der.specs.Ecdsa.{IsNumber}
 use Rattle.picky_key_der.specs.Public.{field_size, is_point, IsKept}
-use Rattle.picky_key_der.specs.Writing.{FitsField, of_coordinates}
-use Rattle.picky_jwk_key.specs.Keys.{Key, rsa, ec, ed, curve_of, curve_named}
-use Rattle.picky_jwk_key.specs.Made.{without_zero, in_field, rsa_of, ec_of}
-use Rattle.picky_jwk_key.specs.Public.{number_of, rsa_public, IsPointKey, KeyOfJwk}
-use Rattle.picky_jwk_key.specs.Refusals.{IsKeyOfPoint, point_table, jwk_table}
+use Rattle.picky_jwk_key.specs.Keys.{Key, ec, curve_of, curve_named}
+use Rattle.picky_jwk_key.specs.Made.{without_zero, in_field, ec_of}
+use Rattle.picky_jwk_key.specs.Public.{number_of, IsPointKey, KeyOfJwk}
+use Rattle.picky_jwk_key.specs.Refusals.{point_table, jwk_table}
 use Rattle.picky_jwk_key.specs.Back.{IsSound, ComeBack}
 use Rattle.picky_jwk_key.specs.laws.Public.{one_key}
 

@@ -1,5 +1,5 @@
 -- What the tables of public keys say.
-use Rattle.std.proofs.Common.{◌≡◌, ℕ, List, length, refl, sym, ◌∙◌, Result, Ok, Err, IfOk}
+use Rattle.std.proofs.Common.{◌≡◌, ℕ, List, length, sym, ◌∙◌, Result, Ok, Err, IfOk}
 use Rattle.picky_base64.specs.Base64.{B64}
 use Rattle.picky_base64.specs.declared.Form.TheVariants.{Url}
 use Rattle.picky_base64.specs.laws.Encoding.{once}
@@ -13,8 +13,8 @@ use Rattle.picky_jwk_names.specs.declared.edwards.JwkEdPublicKeyAlgorithm.{JwkEd
 use Rattle.picky_jwk_names.specs.declared.edwards.JwkEdPublicKeyAlgorithm.TheVariants as names
 use Rattle.picky_jwk_key.specs.declared.error.JwkError.{JwkError}
 use Rattle.picky_jwk_key.specs.Keys.{RsaKey, EcKey, Key, rsa, ec, ed, oct, curve_of}
-use Rattle.picky_jwk_key.specs.Public.{rsa_public, IsRsaKey, IsPointKey, IsEcKey, IsEdwardsKey, IsNamedKey, KeyOfJwk}
-use Rattle.picky_jwk_key.specs.Refusals.{Fault, not_base64, bad_coordinates, bad_ed_key, fault, bytes_table, rsa_table, ec_table, edwards_table, named_table, public_table}
+use Rattle.picky_jwk_key.specs.Public.{rsa_public, IsPointKey, IsEdwardsKey, IsNamedKey, KeyOfJwk}
+use Rattle.picky_jwk_key.specs.Refusals.{not_base64, bad_coordinates, bad_ed_key, fault, bytes_table, rsa_table, ec_table, edwards_table, named_table, public_table}
 
 -- ---- a table says one thing
 

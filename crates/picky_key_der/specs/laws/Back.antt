@@ -1,8 +1,8 @@
 -- What is written of a key is a SubjectPublicKeyInfo of it.
-use Rattle.std.proofs.Common.{◌≡◌, ℕ, ◌+◌, ◌^◌, ◌<◌, ◌≤◌, List, [], ◌∷◌, ◌++◌, length, Option, Some, None, refl, sym, ap, subst, ◌∙◌, arith, inl, inr, length-append}
+use Rattle.std.proofs.Common.{◌≡◌, ℕ, ◌+◌, ◌^◌, ◌<◌, List, [], ◌∷◌, ◌++◌, length, Option, Some, None, refl, sym, subst, arith, inr, length-append}
 use Rattle.std.specs.Prelude.{◌%◌, ◌≢◌}
 use Rattle.picky_asn1_bits.specs.Integer.{IsShortest}
-use Rattle.picky_asn1_oid.specs.Arcs.{IsArcs, contents_of, continued, base128}
+use Rattle.picky_asn1_oid.specs.Arcs.{IsArcs, contents_of}
 use Rattle.picky_der.specs.Form.{Form, IsOneValue}
 use Rattle.picky_der.specs.Length.{value_of}
 use Rattle.picky_der.specs.laws.Headers.{length-value_of, IsValue-of}
@@ -17,12 +17,11 @@ use Rattle.picky_key_der.specs.declared.algorithm.EdAlgorithm.TheVariants.{Ed255
 use Rattle.picky_key_der.specs.declared.algorithm.NamedEcCurve.{NamedEcCurve}
 use Rattle.picky_key_der.specs.declared.algorithm.NamedEcCurve.TheVariants.{Known, Unsupported}
 use Rattle.picky_key_der.specs.declared.algorithm.TheConstants.{RSA_ENCRYPTION, EC_PUBLIC_KEY}
-use Rattle.picky_key_der.specs.declared.public.PublicKeyKind.{PublicKeyKind}
 use Rattle.picky_key_der.specs.declared.public.PublicKeyKind.TheVariants.{Rsa, Ec, Ed}
-use Rattle.picky_key_der.specs.Grammar.{Spelled, curve_arcs, edwards_arcs, HasArcs, IsPublicKey, WrittenIsKey}
+use Rattle.picky_key_der.specs.Grammar.{Spelled, curve_arcs, edwards_arcs, HasArcs, WrittenIsKey}
 use Rattle.picky_key_der.specs.Identifiers.{rsa_encryption, ec_public_key, rsa_known, ec_known, x25519_known, ed25519_known, secp256r1_known, secp384r1_known, secp521r1_known}
-use Rattle.picky_key_der.specs.Public.{whole_bits, information, rsa_public, IsKept}
-use Rattle.picky_key_der.specs.Writing.{curve_contents, ed_contents, information_der, rsa_bits_of, public_der_of, HasNumbers}
+use Rattle.picky_key_der.specs.Public.{whole_bits, information, rsa_public}
+use Rattle.picky_key_der.specs.Writing.{curve_contents, ed_contents, information_der, rsa_bits_of}
 use Rattle.picky_key_der.specs.laws.Public.{information_lawful, rsa_public_lawful}
 
 -- ---- what is in form is spelled by its encoding

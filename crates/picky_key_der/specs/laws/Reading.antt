@@ -1,16 +1,11 @@
 -- What the tables of public keys say.
-use Rattle.std.proofs.Common.{◌≡◌, ℕ, List, length, Option, Some, None, Result, Ok, Err, true, false, refl, sym, ap, subst, ◌∙◌, inl, inr}
-use Rattle.std.specs.Prelude.{◌==◌, if◌then◌else◌}
-use Rattle.picky_contract.specs.Refusals.{Table, the}
+use Rattle.std.proofs.Common.{◌≡◌, ℕ, List, Result, Ok, Err, refl, sym, ap, ◌∙◌}
 use Rattle.picky_contract.specs.laws.Tables.{Exact, the_exact, need_exact, done_exact, then_exact}
 use Rattle.picky_der.specs.declared.fault.DerError.{DerError}
 use Rattle.picky_der.specs.laws.Steps.{ok_is}
 use Rattle.picky_fields.specs.declared.algorithm.AlgorithmIdentifier.{AlgorithmIdentifier}
-use Rattle.picky_key_der.specs.declared.algorithm.EdAlgorithm.{EdAlgorithm}
 use Rattle.picky_key_der.specs.declared.algorithm.KeyAlgorithm.{KeyAlgorithm}
 use Rattle.picky_key_der.specs.declared.algorithm.KeyAlgorithm.TheVariants as keys
-use Rattle.picky_key_der.specs.declared.algorithm.NamedEcCurve.{NamedEcCurve}
-use Rattle.picky_key_der.specs.declared.error.KeyError.{KeyError}
 use Rattle.picky_key_der.specs.declared.error.KeyError.TheVariants.{Der}
 use Rattle.picky_key_der.specs.declared.kind.PrivateKeyKind.{PrivateKeyKind}
 use Rattle.picky_key_der.specs.declared.kind.PrivateKeyKind.TheVariants as private

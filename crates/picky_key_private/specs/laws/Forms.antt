@@ -1,15 +1,14 @@
 -- The laws of what private keys are made of.
-use Rattle.std.proofs.Common.{◌≡◌, ℕ, ◌<◌, Bool, true, List, [], ◌∷◌, Ok, Err, refl, sym, ap, ◌∙◌, subst, arith}
-use Rattle.std.specs.Prelude.{nat_lt, ◌==◌}
+use Rattle.std.proofs.Common.{◌≡◌, ℕ, true, List, [], ◌∷◌, Ok, refl, sym, ap, ◌∙◌, subst, arith}
+use Rattle.std.specs.Prelude.{nat_lt}
 use Rattle.std.proofs.lemmas.Bool.{eqb-true}
 use Rattle.picky_der.specs.declared.fault.DerError.TheVariants.{BadValue}
-use Rattle.picky_der.specs.Length.{IsBytes}
 use Rattle.picky_der.specs.Primitive.{Decodes}
 use Rattle.picky_der.specs.laws.Steps.{need_ok, ok_is}
 use Rattle.picky_der.specs.laws.Primitives.{primitive_readable, primitive_writable}
 use Rattle.picky_fields.specs.Algorithm.{algorithm_lawful}
 use Rattle.picky_fields.specs.Fields.{Tells, explicit}
-use Rattle.picky_fields.specs.laws.Fields.{Lawful, LawfulFields, one_lawful, and_lawful, sequence_lawful, explicit_lawful, other_tag, takes_neither}
+use Rattle.picky_fields.specs.laws.Fields.{Lawful, LawfulFields, one_lawful, and_lawful, sequence_lawful, explicit_lawful, other_tag}
 use Rattle.picky_fields.specs.laws.Optional.{only_lawful, optional_lawful}
 use Rattle.picky_fields.specs.laws.Plain.{identifier_lawful, integer_lawful, octets_lawful}
 use Rattle.picky_key_der.specs.laws.Public.{whole_bits_lawful}

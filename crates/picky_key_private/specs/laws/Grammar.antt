@@ -1,15 +1,13 @@
 -- What the table of private keys accepts is what the grammar spells.
-use Rattle.std.proofs.Common.{◌≡◌, ℕ, ◌≤◌, List, [], ◌∷◌, ◌++◌, length, Option, Some, None, Result, Ok, Err, IfOk, refl, sym, ap, subst, ◌∙◌, arith, inl, inr}
+use Rattle.std.proofs.Common.{◌≡◌, ℕ, ◌≤◌, List, [], ◌++◌, Option, Some, None, Result, Ok, Err, IfOk, refl, sym, ap, subst, ◌∙◌, arith}
 use Rattle.picky_asn1_oid.specs.Arcs.{IsArcs}
 use Rattle.picky_contract.specs.Refusals.{Meets, OkOrMemory}
 use Rattle.picky_contract.specs.laws.Tables.{complete}
 use Rattle.std.proofs.lemmas.List.{append-nil}
 use Rattle.picky_der.specs.Length.{IsBytes, value_of}
-use Rattle.picky_der.specs.Reading.{whole_bytes}
 use Rattle.picky_der.specs.Form.{NestsAtMost}
 use Rattle.picky_der.specs.laws.Headers.{IsBytes-contents}
 use Rattle.picky_der.specs.laws.Lengths.{IsBytes-after, IsBytes-front, TailIsBytes-of}
-use Rattle.picky_fields.specs.declared.algorithm.AlgorithmIdentifier.{AlgorithmIdentifier}
 use Rattle.picky_fields.specs.Algorithm.{algorithm, algorithm_nests}
 use Rattle.picky_fields.specs.Fields.{octet_string, identifier, explicit, SpellsOptional, optional_height}
 use Rattle.picky_fields.specs.laws.Plain.{octets_lawful}
@@ -21,13 +19,12 @@ use Rattle.picky_key_der.specs.declared.kind.PrivateKeyKind.TheVariants.{Rsa, Ec
 use Rattle.picky_key_der.specs.declared.public.PublicKeyKind.{PublicKeyKind}
 use Rattle.picky_key_der.specs.Errors.{key_fault}
 use Rattle.picky_key_der.specs.Grammar.{Spelled, IsAlgorithm, HoldsKey}
-use Rattle.picky_key_der.specs.Kinds.{kind_of}
-use Rattle.picky_key_der.specs.Public.{whole_bits, parameters_of, held_table, point_table, ed_held_table, kind_table}
+use Rattle.picky_key_der.specs.Public.{whole_bits, parameters_of, held_table, point_table, ed_held_table}
 use Rattle.picky_key_der.specs.laws.Grammar.{whole_spelled, spelled_whole, parameters_bytes, kind_found, kind_again, held_again}
 use Rattle.picky_key_der.specs.laws.Public.{whole_takes, whole_again}
 use Rattle.picky_key_der.specs.laws.Reading.{held_kind}
 use Rattle.picky_key_private.specs.declared.private.PrivateKey.{PrivateKey}
-use Rattle.picky_key_private.specs.Forms.{InfoValue, version, attributes, public_bits, info_fields, private_info, public_numbers, private_numbers, rsa_fields, rsa_private, is_one, EcValue, ec_fields, ec_private}
+use Rattle.picky_key_private.specs.Forms.{InfoValue, version, attributes, public_bits, info_fields, private_info, public_numbers, private_numbers, rsa_fields, rsa_private, ec_fields, ec_private}
 use Rattle.picky_key_private.specs.Grammar.{HoldsPart, AreWhole, HoldsNumbers, HoldsNumber, HoldsSecret, HoldsPrivate, IsPrivateKey}
 use Rattle.picky_key_private.specs.Private.{private_table}
 use Rattle.picky_key_private.specs.Reading.{rsa_said_table, behind_table, part_table, parts_table, ec_said_table, sized_table, ed_said_table, kind_said_table, said_table}

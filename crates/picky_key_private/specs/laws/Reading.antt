@@ -1,16 +1,12 @@
 -- What the tables of private keys say.
-use Rattle.std.proofs.Common.{◌≡◌, ℕ, List, length, Option, Some, None, Result, Ok, Err, true, refl, sym, ap, subst, ◌∙◌, inl, inr}
-use Rattle.std.specs.Prelude.{IsTrue}
-use Rattle.picky_contract.specs.Refusals.{Table}
+use Rattle.std.proofs.Common.{◌≡◌, ℕ, List, Option, Some, None, true, refl, sym, ap, ◌∙◌}
 use Rattle.picky_contract.specs.laws.Tables.{Exact, need_exact, done_exact, then_exact}
-use Rattle.picky_der.specs.declared.fault.DerError.{DerError}
 use Rattle.picky_key_der.specs.declared.algorithm.EdAlgorithm.{EdAlgorithm}
 use Rattle.picky_key_der.specs.declared.algorithm.NamedEcCurve.{NamedEcCurve}
-use Rattle.picky_key_der.specs.declared.error.KeyError.{KeyError}
 use Rattle.picky_key_der.specs.declared.kind.PrivateKeyKind.{PrivateKeyKind}
 use Rattle.picky_key_der.specs.declared.kind.PrivateKeyKind.TheVariants.{Rsa, Ec, Ed}
 use Rattle.picky_key_der.specs.declared.public.PublicKeyKind.{PublicKeyKind}
-use Rattle.picky_key_der.specs.Kinds.{kind_of, same_kind, same_edwards}
+use Rattle.picky_key_der.specs.Kinds.{kind_of, same_kind}
 use Rattle.picky_key_der.specs.laws.Kinds.{same_kind_decides}
 use Rattle.picky_key_der.specs.laws.Reading.{read_exact, kind_exact, held_exact, held_kind}
 use Rattle.picky_key_private.specs.declared.private.PrivateKey.{PrivateKey}

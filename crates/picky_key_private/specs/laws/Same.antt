@@ -1,5 +1,5 @@
 -- The test whether two private keys are the same decides it.
-use Rattle.std.proofs.Common.{◌≡◌, ℕ, List, Option, Some, None, true, refl, ap, subst, ◌∙◌}
+use Rattle.std.proofs.Common.{◌≡◌, ℕ, List, Option, Some, None, true, refl, ap, subst}
 use Rattle.std.specs.Bool.{Decides}
 use Rattle.std.specs.Prelude.{◌&&◌, IsTrue}
 use Rattle.std.specs.Str.{bytes_eq}
@@ -8,7 +8,7 @@ use Rattle.std.proofs.lemmas.Bool.{and_parts, and_from}
 use Rattle.std.proofs.lemmas.Slice.Eq.{bytes_eq-Decides}
 use Rattle.picky_key_der.specs.declared.kind.PrivateKeyKind.{PrivateKeyKind}
 use Rattle.picky_key_der.specs.declared.public.PublicKeyKind.{PublicKeyKind}
-use Rattle.picky_key_der.specs.Kinds.{same_kind, same_public}
+use Rattle.picky_key_der.specs.Kinds.{same_kind}
 use Rattle.picky_key_der.specs.laws.Kinds.{same_kind_decides, same_public_decides}
 use Rattle.picky_key_private.specs.declared.private.PrivateKey.{PrivateKey}
 use Rattle.picky_key_private.specs.Parts.{part_fits, same_part}

@@ -1,4 +1,3 @@
-use Rattle.std.proofs.Common.{ℕ}
 use Rattle.std.specs.Prelude.{◌==◌}
 use Rattle.picky_key_private.proofs.Next.{some_next, none_next}
 use Rattle.picky_key_private.proofs.info.stands_next.Goals as goal
