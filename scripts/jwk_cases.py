@@ -1,5 +1,5 @@
 #!/usr/bin/env python3
-"""Prints rows of crates/jwk_rows over JSON Web Keys, their sets and headers of signed tokens.
+"""Prints rows of crates/token_rows over JSON Web Keys, their sets and headers of signed tokens.
 
 - Forms: each member absent, null, a text, a number, a list and an object, at keys of every type; the answer is the rule of RFC 7517, RFC 7518 and
   RFC 8037 that the row's name says. What is written back is python's json of the members that the rule keeps, sorted by name, without white space.
@@ -7,7 +7,8 @@
 - Real keys: made by python's `cryptography` for this run and thrown away, test keys that protect nothing. Their JSON Web Keys are of the numbers that
   `cryptography` gives, their SubjectPublicKeyInfo is the one that `cryptography` writes.
 
-Run at the root of the repository: python3 scripts/jwk_cases.py >crates/jwk_rows/stdout, then scripts/rows-stdin jwk_rows.
+Run at the root of the repository: python3 scripts/jwk_cases.py prints the rows from the first `key_in_json` on; with them in crates/token_rows/stdout,
+scripts/rows-stdin token_rows makes the questions.
 """
 import base64
 import json

@@ -1,12 +1,11 @@
-//! How long the ciphers and DER take.
+//! How long the ciphers take.
 //!
 //! With the word `time` it prints how long each call of the ciphers takes; with the word `speed` how long those take that
-//! `scripts/bench-speed` holds against openssl; with the word `iterate` it prints a key of 16,777,216 iterations of PBKDF2;
-//! with the word `der` how long DER takes, by size. With no word it prints these words.
+//! `scripts/bench-speed` holds against openssl; with the word `iterate` it prints a key of 16,777,216 iterations of PBKDF2.
+//! With no word it prints these words.
 #![tactic(auto)]
 
 mod ciphers;
-mod der;
 mod derivations;
 mod timing;
 
@@ -31,15 +30,14 @@ fn main(rt: HostRuntime) -> Result<()> {
     let _program = words.next();
     match words.next() {
         None => {
-            println!(rt; "bench time | speed | iterate | der")?;
+            println!(rt; "bench time | speed | iterate")?;
             Ok(())
         }
         Some(word) => match word.as_str() {
             "time" => time(&rt),
             "speed" => speed(&rt),
             "iterate" => derivations::print_large(&rt),
-            "der" => der::print(&rt),
-            _ => bail!("the words are `time`, `speed`, `iterate` and `der`"),
+            _ => bail!("the words are `time`, `speed` and `iterate`"),
         },
     }
 }

@@ -1,9 +1,11 @@
-//! Answers rows that name the calls of base64, JSON, keys, records and signed tokens.
+//! Answers rows that name the calls of base64, JSON, keys, key sets, headers, records and signed tokens.
 #![tactic(auto)]
 
 mod base64;
 mod dates;
+mod headers;
 mod json;
+mod jwks;
 mod keys;
 mod messages;
 mod pairs;
@@ -25,6 +27,8 @@ impl Calls for TokenCalls {
             "base64" => base64::answer(alloc, call, words),
             "json" => json::answer(alloc, call, words),
             "key" => keys::answer(alloc, call, words),
+            "key_in_json" => jwks::answer(alloc, call, words),
+            "header_in_json" => headers::answer(alloc, call, words),
             "records" => records::answer(alloc, call, words),
             "jws" => tokens::answer(alloc, call, words),
             "jwt" => dates::answer(alloc, call, words),

@@ -48,3 +48,21 @@ pub(crate) fn printed<T: fmt::Display + Drop>(alloc: Global, value: Result<T>) -
     let value = value?;
     Answer::display(alloc, &value)
 }
+
+// A text, in one line.
+pub(crate) struct Text;
+
+impl Shows<String> for Text {
+    fn show(alloc: Global, text: &String) -> Result<Answer> {
+        Answer::lines(alloc, text)
+    }
+}
+
+// Bytes in hex.
+pub(crate) struct Hex;
+
+impl Shows<Vec<u8>> for Hex {
+    fn show(alloc: Global, bytes: &Vec<u8>) -> Result<Answer> {
+        Answer::bytes(alloc, bytes)
+    }
+}
