@@ -1,4 +1,3 @@
 -- What the laws of the simple wrappers rest on.
 pub mod Bits
 pub mod Sets
-pub mod Times

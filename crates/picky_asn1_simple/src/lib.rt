@@ -1,5 +1,5 @@
 //! Simple values of ASN.1 under their tags, as DER: [`StringAsn1`], restricted strings with a name for each kind,
-//! [`BitStringAsn1`], [`ObjectIdentifierAsn1`], and [`DateAsn1`] with [`UtcTimeAsn1`] and [`GeneralizedTimeAsn1`].
+//! [`BitStringAsn1`] and [`ObjectIdentifierAsn1`].
 #![tactic(auto)]
 
 mod bit_string;
@@ -7,7 +7,6 @@ mod kinds;
 pub mod laws;
 mod object_identifier;
 mod string;
-mod time;
 
 pub use bit_string::BitStringAsn1;
 pub use kinds::{
@@ -16,4 +15,3 @@ pub use kinds::{
 };
 pub use object_identifier::ObjectIdentifierAsn1;
 pub use string::{DecidedSet, StringAsn1};
-pub use time::{DateAsn1, DecidedTime, GeneralizedTimeAsn1, UtcTimeAsn1};

@@ -1,7 +1,7 @@
 // Types whose `==` tells values of different meaning apart.
 ghost use Rattle.std.specs.Prelude.{◌≡◌, ◌↔◌, IsTrue, string_bytes, refl};
 ghost use Rattle.std.specs.Cmp.Lexicographic.{bytes_decides};
-ghost use Rattle.picky_asn1_wrapper.specs.laws.Equal.{nat_equal, bool_equal, bytes_equal, strings_equal, numbers_equal, dates_equal, lists_equal};
+ghost use Rattle.picky_asn1_wrapper.specs.laws.Equal.{nat_equal, bool_equal, bytes_equal, strings_equal, lists_equal};
 
 use crate::container::{BitStringAsn1Container, OctetStringAsn1Container};
 use crate::explicit::ExplicitContextTag;
@@ -10,9 +10,8 @@ use crate::implicit::ImplicitContextTag;
 use crate::lists::{Asn1SequenceOf, Asn1SetOf};
 use crate::optional::Optional;
 use picky_asn1_bits::{BitString, IntegerAsn1, OctetStringAsn1};
-use picky_asn1_date::{Date, TimeRepr};
 use picky_asn1_oid::ObjectIdentifier;
-use picky_asn1_simple::{BitStringAsn1, DateAsn1, ObjectIdentifierAsn1, StringAsn1};
+use picky_asn1_simple::{BitStringAsn1, ObjectIdentifierAsn1, StringAsn1};
 use picky_asn1_tag::{Asn1Type, Asn1Value};
 use picky_asn1_text::{CharSet, RestrictedString};
 use picky_der::Asn1RawDer;
@@ -95,20 +94,12 @@ impl<C: CharSet + PartialEq> EqualMeaning for RestrictedString<C> {
     ghost equal_meaning = { bytes_equal };
 }
 
-impl<TR: PartialEq> EqualMeaning for Date<TR> {
-    ghost equal_meaning = { numbers_equal };
-}
-
 impl EqualMeaning for BitStringAsn1 {
     ghost equal_meaning = { λ x y. bytes_decides x.0 y.0 };
 }
 
 impl EqualMeaning for ObjectIdentifierAsn1 {
     ghost equal_meaning = { λ x y. bytes_decides x.0 y.0 };
-}
-
-impl<K: Asn1Type + PartialEq, TR: TimeRepr + PartialEq> EqualMeaning for DateAsn1<K, TR> {
-    ghost equal_meaning = { λ x y. dates_equal x.date y.date };
 }
 
 impl<K: Asn1Type + PartialEq, C: CharSet + PartialEq> EqualMeaning for StringAsn1<K, C> {

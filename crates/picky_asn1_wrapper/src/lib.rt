@@ -30,7 +30,6 @@ pub use implicit::ImplicitContextTag;
 pub use lists::{Asn1SequenceOf, Asn1SetOf};
 pub use optional::Optional;
 pub use picky_asn1_simple::{
-    BitStringAsn1, BmpStringAsn1, DateAsn1, DecidedSet, DecidedTime, GeneralStringAsn1,
-    GeneralizedTimeAsn1, Ia5StringAsn1, NumericStringAsn1, ObjectIdentifierAsn1,
-    PrintableStringAsn1, StringAsn1, UtcTimeAsn1, Utf8StringAsn1,
+    BitStringAsn1, BmpStringAsn1, DecidedSet, GeneralStringAsn1, Ia5StringAsn1, NumericStringAsn1,
+    ObjectIdentifierAsn1, PrintableStringAsn1, StringAsn1, Utf8StringAsn1,
 };

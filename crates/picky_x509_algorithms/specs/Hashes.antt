@@ -1,10 +1,10 @@
 -- Algorithms told by a hash function's identifier, or by that of HMAC over it, with NULL or absent parameters (RFC 8017 appendix B.1, RFC 8018 appendix B.1), and any other algorithm.
-use Rattle.std.specs.Prelude.{ℕ, Bool, List, [], ◌∷◌, Option, Some, ◌⊎◌}
+use Rattle.std.specs.Prelude.{ℕ, List, [], ◌∷◌, Option, Some, ◌⊎◌}
 use Rattle.std.proofs.Common.{◌≡◌, refl}
 use Rattle.picky_asn1_oid.specs.Arcs.{continued, base128}
 use Rattle.picky_fields.specs.Fields.{identifier, null_or_none}
 use Rattle.picky_fields.specs.Choice.{Cases}
-use Rattle.picky_fields.specs.Names.{Names, among}
+use Rattle.picky_fields.specs.Names.{among}
 use Rattle.picky_fields.specs.laws.Optional.{null_or_none_lawful}
 use Rattle.picky_fields.specs.laws.Choice.{LawfulCases}
 use Rattle.picky_fields.specs.laws.Names.{among_lawful}

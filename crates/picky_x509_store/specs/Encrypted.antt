@@ -1,6 +1,6 @@
 -- An encrypted part: EncryptedData ::= SEQUENCE { version INTEGER (0), encryptedContentInfo SEQUENCE { contentType id-data, contentEncryptionAlgorithm, encryptedContent [0] IMPLICIT OCTET STRING OPTIONAL } } (RFC 5652 sections 6.1 and 8).
 use Rattle.std.specs.Prelude.{ℕ, ◌^◌, ◌==◌, List, Option}
-use Rattle.std.proofs.Common.{◌≡◌, Ok, refl, sym, ap, ◌∙◌, arith}
+use Rattle.std.proofs.Common.{Ok, refl, sym, ap, ◌∙◌, arith}
 use Rattle.std.proofs.lemmas.Bool.{eqb-true}
 use Rattle.picky_der.specs.Form.{Form}
 use Rattle.picky_der.specs.Primitive.{Decodes, primitive_form}

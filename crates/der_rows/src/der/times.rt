@@ -10,7 +10,7 @@ use crate::der::plain::{bad_row, next_value};
 use crate::der::values::written;
 use anyhow::Result;
 use picky_asn1_date::{Date, DateError, UTCTime};
-use picky_asn1_wrapper::{GeneralizedTimeAsn1, UtcTimeAsn1};
+use picky_asn1_time::{GeneralizedTimeAsn1, UtcTimeAsn1};
 use rows::{Answer, Words};
 use std::alloc::Global;
 

@@ -15,12 +15,12 @@ use crate::der::{defaults, types};
 use anyhow::Result;
 use picky_asn1_bits::{IntegerAsn1, OctetStringAsn1};
 use picky_asn1_tag::{Asn1Type, CopyIn, Empty};
+use picky_asn1_time::{GeneralizedTimeAsn1, UtcTimeAsn1};
 use picky_asn1_wrapper::{
     Asn1SequenceOf, Asn1SetOf, BitStringAsn1, BitStringAsn1Container, BmpStringAsn1, EqualMeaning,
-    ExplicitContextTag0, ExplicitContextTag1, GeneralStringAsn1, GeneralizedTimeAsn1, HeaderOnly,
-    Ia5StringAsn1, ImplicitContextTag0, ImplicitContextTag2, NumericStringAsn1,
-    ObjectIdentifierAsn1, OctetStringAsn1Container, PrintableStringAsn1, UtcTimeAsn1,
-    Utf8StringAsn1,
+    ExplicitContextTag0, ExplicitContextTag1, GeneralStringAsn1, HeaderOnly, Ia5StringAsn1,
+    ImplicitContextTag0, ImplicitContextTag2, NumericStringAsn1, ObjectIdentifierAsn1,
+    OctetStringAsn1Container, PrintableStringAsn1, Utf8StringAsn1,
 };
 use picky_der::{Asn1RawDer, DerError, DerRead, DerReader, DerWrite};
 use picky_fields::AlgorithmIdentifier;

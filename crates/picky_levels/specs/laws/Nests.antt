@@ -1,14 +1,13 @@
 -- The laws of records that hold items of their own type, at each number of levels, from those of their parts.
 use Rattle.std.proofs.Common.{◌≡◌, ℕ, true, false, ◌⊎◌, List, arith, inl, inr}
 use Rattle.picky_der.specs.Form.{Form}
-use Rattle.picky_fields.specs.Fields.{Fields, Tells, one, identifier}
+use Rattle.picky_fields.specs.Fields.{Fields, Tells, identifier}
 use Rattle.picky_fields.specs.Choice.{Cases}
 use Rattle.picky_fields.specs.laws.Fields.{Lawful, LawfulFields, one_lawful, and_lawful, one_to_one, seen_lawful, explicit_lawful}
 use Rattle.picky_fields.specs.laws.Choice.{LawfulCases, case_lawful, told_lawful}
 use Rattle.picky_fields.specs.laws.Identifiers.{Known, known_tells}
 use Rattle.picky_fields.specs.laws.Levels.{levels_lawful}
 use Rattle.picky_fields.specs.laws.Plain.{identifier_lawful}
-use Rattle.picky_asn1_wrapper.specs.Lists.{list_form}
 use Rattle.picky_asn1_wrapper.specs.laws.Lists.{list_readable, list_writable}
 use Rattle.picky_levels.specs.Nests.{Nest, made_of, items_form, held, nest_fields, nest_form, known_nest}
 

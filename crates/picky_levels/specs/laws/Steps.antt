@@ -1,7 +1,6 @@
 -- Steps of writing what a record holds: what stands in front of items, and then items.
-use Rattle.std.proofs.Common.{◌≡◌, ℕ, ◌⊎◌, List, Option, Some, None, Result, Ok, Err, sym, subst, inl, inr}
+use Rattle.std.proofs.Common.{◌≡◌, ℕ, ◌⊎◌, List, Option, Some, None, Result, Ok, Err, subst, inl, inr}
 use Rattle.picky_der.specs.declared.fault.DerError.{DerError}
-use Rattle.picky_der.specs.declared.fault.DerError.TheVariants.{OutOfMemory, BadValue}
 use Rattle.picky_der.specs.Form.{Form, Appends, Writes}
 use Rattle.picky_fields.specs.Records.{WritesFields}
 use Rattle.picky_levels.specs.Nests.{Nest, items_form, held, items_in, FrontEncodes, FrontRefused}

@@ -1,5 +1,5 @@
 -- The identifiers that containers know are identifiers, and tell themselves from all others.
-use Rattle.std.proofs.Common.{◌≡◌, ℕ, Bool, true, false, cond, List, [], ◌∷◌, Option, Some, None, Result, refl, sym, ◌∙◌, rules, inl, inr}
+use Rattle.std.proofs.Common.{◌≡◌, ℕ, List, [], ◌∷◌, Some, Result, refl, rules, inl, inr}
 use Rattle.picky_asn1_oid.specs.Arcs.{IsArcs, contents_of}
 use Rattle.picky_der.specs.declared.fault.DerError.{DerError}
 use Rattle.picky_der.specs.Form.{IsValue, Writes}

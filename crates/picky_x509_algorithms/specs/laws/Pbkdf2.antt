@@ -1,8 +1,7 @@
 -- The laws of PBKDF2's parameters.
-use Rattle.std.proofs.Common.{◌≡◌, ℕ, List, Option, Some, None, ◌⊎◌, refl, sym, ap, subst, ◌∙◌, inl, inr}
+use Rattle.std.proofs.Common.{◌≡◌, Option, Some, None, refl, sym, ap, subst, inl, inr}
 use Rattle.std.specs.Prelude.{IfSome}
-use Rattle.picky_fields.specs.declared.algorithm.AlgorithmIdentifier.{AlgorithmIdentifier}
-use Rattle.picky_fields.specs.Fields.{one, optional, ◌and◌, sequence}
+use Rattle.picky_fields.specs.Fields.{one, optional, ◌and◌}
 use Rattle.picky_fields.specs.SeenAgain.{SeesAgain}
 use Rattle.picky_fields.specs.laws.Fields.{Lawful, one_lawful, and_lawful, sequence_lawful, other_tag}
 use Rattle.picky_fields.specs.laws.Optional.{optional_lawful}
@@ -12,7 +11,7 @@ use Rattle.picky_x509_algorithms.specs.declared.prf.Pbkdf2Prf.TheVariants.{HmacW
 use Rattle.picky_x509_algorithms.specs.Counts.{count, count_lawful}
 use Rattle.picky_x509_algorithms.specs.Prf.{prf, prf_lawful}
 use Rattle.picky_x509_algorithms.specs.Salt.{SaltValue, salt_parts, salt_of, salt, salt_lawful}
-use Rattle.picky_x509_algorithms.specs.Pbkdf2.{beside_default, without_default, Pbkdf2Value, pbkdf2_of, pbkdf2_parts, pbkdf2_fields, pbkdf2}
+use Rattle.picky_x509_algorithms.specs.Pbkdf2.{beside_default, without_default, pbkdf2_of, pbkdf2_parts, pbkdf2_fields, pbkdf2}
 
 -- nothing is left out twice
 beside_twice : (p : Pbkdf2Prf) → without_default (beside_default p) ≡ beside_default p

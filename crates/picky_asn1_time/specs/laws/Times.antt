@@ -14,7 +14,7 @@ use Rattle.picky_der.specs.Form.{Readable, Writable, Tagged}
 use Rattle.picky_der.specs.Primitive.{Decodes, primitive_form}
 use Rattle.picky_der.specs.laws.Steps.{need_ok, ok_is}
 use Rattle.picky_der.specs.laws.Primitives.{primitive_readable, primitive_writable, primitive_tagged}
-use Rattle.picky_asn1_simple.specs.Times.{is_moment, is_time, time_of, time_contents, utc_numbers, is_utc_year, generalized_numbers, is_generalized_year}
+use Rattle.picky_asn1_time.specs.Times.{is_moment, is_time, time_of, time_contents, utc_numbers, is_utc_year, generalized_numbers, is_generalized_year}
 
 -- ---- what the tests decide
 

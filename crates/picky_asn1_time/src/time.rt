@@ -6,11 +6,13 @@ ghost use Rattle.picky_asn1_date.specs.Moment.{Moment, IsMoment};
 ghost use Rattle.picky_der.specs.declared.fault.DerError.TheVariants.{OutOfMemory, BadValue};
 ghost use Rattle.picky_der.specs.Reading.{IsOfBytes, Answers, Reads};
 ghost use Rattle.picky_der.specs.Primitive.{primitive_form, primitive_at};
-ghost use Rattle.picky_asn1_simple.specs.Times.{time_of, time_contents, utc_numbers, is_utc_year, generalized_numbers, is_generalized_year};
-ghost use Rattle.picky_asn1_simple.specs.laws.Times.{utc_decides, utc_reads, generalized_decides, generalized_reads, time_readable, time_writable, time_tagged};
+ghost use Rattle.picky_asn1_time.specs.Times.{time_of, time_contents, utc_numbers, is_utc_year, generalized_numbers, is_generalized_year};
+ghost use Rattle.picky_asn1_time.specs.laws.Equal.{dates_equal};
+ghost use Rattle.picky_asn1_time.specs.laws.Times.{utc_decides, utc_reads, generalized_decides, generalized_reads, time_readable, time_writable, time_tagged};
 
 use picky_asn1_date::{Date, DateError, GeneralizedTimeRepr, TimeRepr, UTCTimeRepr};
 use picky_asn1_tag::{Asn1Type, Asn1Value, CopyIn, Tag};
+use picky_asn1_wrapper::EqualMeaning;
 use picky_der::{DerError, DerForm, DerRead, DerReader, DerTagged, DerWrite, write_value};
 use std::alloc::{AllocError, Global};
 use std::marker::PhantomData;
@@ -96,7 +98,7 @@ impl<K: Asn1Type, TR: TimeRepr> DerefMut for DateAsn1<K, TR> {
     ghost use Rattle.std.specs.Prelude.{◌≡◌};
     ghost use Rattle.std.specs.Borrow.{Lends, sem};
     ghost use Rattle.picky_asn1_date.specs.contracts.date.Date as inner;
-    ghost use Rattle.picky_asn1_simple.specs.contracts.time.DateAsn1.{the_row};
+    ghost use Rattle.picky_asn1_time.specs.contracts.time.DateAsn1.{the_row};
 
     ghost deref_mut_gives = { λ wrapped date. date ≡ wrapped.date };
 
@@ -123,6 +125,10 @@ impl<K: Asn1Type, TR: TimeRepr> Asn1Value for DateAsn1<K, TR> {
     ghost Meaning = { Moment };
 
     ghost meaning = { λ wrapped. wrapped.date };
+}
+
+impl<K: Asn1Type + PartialEq, TR: TimeRepr + PartialEq> EqualMeaning for DateAsn1<K, TR> {
+    ghost equal_meaning = { λ x y. dates_equal x.date y.date };
 }
 
 impl<K: Asn1Type, TR: TimeRepr> CopyIn for DateAsn1<K, TR> {

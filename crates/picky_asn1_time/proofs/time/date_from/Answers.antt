@@ -1,5 +1,5 @@
-use Rattle.picky_asn1_simple.specs.laws.Times.{time_again, time_bad}
-use Rattle.picky_asn1_simple.proofs.time.date_from.Goals as goal
+use Rattle.picky_asn1_time.specs.laws.Times.{time_again, time_bad}
+use Rattle.picky_asn1_time.proofs.time.date_from.Goals as goal
 
 pub returns-in-Ok-clause-answers : goal.returns-in-Ok-clause-answers
 returns-in-Ok-clause-answers g c =

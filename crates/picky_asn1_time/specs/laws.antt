@@ -1,0 +1,3 @@
+-- What the laws of dates under a tag rest on.
+pub mod Equal
+pub mod Times
