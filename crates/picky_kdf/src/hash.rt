@@ -107,9 +107,7 @@ impl Hasher {
         }
     }
 
-    // The hash of the message with `text` after it, in the front of an array. Inlined, since a loop
-    // of calls takes a tenth more time.
-    #[inline(always)]
+    // The hash of the message with `text` after it, in the front of an array.
     pub(crate) fn hash_after(&self, text: &[u8]) -> [u8; 64]
         ensures { (hash : Pkcs12HashAlgorithm) → (message : List ℕ)
             → IsHolding hash self.now message
@@ -117,94 +115,133 @@ impl Hasher {
     {
         let mut out = [0; 64];
         match self {
-            Hasher::Sha1(hasher) => {
-                let mut hasher = copied(hasher);
-                hasher.update(text);
-                out[..20].copy_from_slice(&hasher.finalize());
-            }
-            Hasher::Sha224(hasher) => {
-                let mut hasher = copied(hasher);
-                hasher.update(text);
-                out[..28].copy_from_slice(&hasher.finalize());
-            }
-            Hasher::Sha256(hasher) => {
-                let mut hasher = copied(hasher);
-                hasher.update(text);
-                out[..32].copy_from_slice(&hasher.finalize());
-            }
-            Hasher::Sha384(hasher) => {
-                let mut hasher = copied(hasher);
-                hasher.update(text);
-                out[..48].copy_from_slice(&hasher.finalize());
-            }
-            Hasher::Sha512(hasher) => {
-                let mut hasher = copied(hasher);
-                hasher.update(text);
-                out[..64].copy_from_slice(&hasher.finalize());
-            }
+            Hasher::Sha1(hasher) => out[..20].copy_from_slice(&hasher.hash_after(text)),
+            Hasher::Sha224(hasher) => out[..28].copy_from_slice(&hasher.hash_after(text)),
+            Hasher::Sha256(hasher) => out[..32].copy_from_slice(&hasher.hash_after(text)),
+            Hasher::Sha384(hasher) => out[..48].copy_from_slice(&hasher.hash_after(text)),
+            Hasher::Sha512(hasher) => out[..64].copy_from_slice(&hasher.hash_after(text)),
         }
         out
     }
 }
 
-// A hash function whose hashes have `N` bytes.
-pub(crate) trait Rehash<const N: usize> {
+// The hasher of a hash function whose hashes have `N` bytes. A loop over one such type takes less
+// time than one that asks at each step which of the five it is.
+pub(crate) trait HashFunction<const N: usize> {
     ghost use Rattle.picky_kdf.specs.declared.hash.Pkcs12HashAlgorithm.{Pkcs12HashAlgorithm};
 
     // Which of the five it is.
     ghost function: { Pkcs12HashAlgorithm };
 
+    // The hasher holds this message.
+    ghost holds: { Self → List ℕ → Type 0 };
+
     // The hash of a hash.
     fn rehashed(last: &[u8; N]) -> [u8; N]
         ensures { result ≡ digest function last.now };
+
+    // The hash of the message with `text` after it.
+    fn hash_after(&self, text: &[u8]) -> [u8; N]
+        ensures { (message : List ℕ) → holds self.now message
+            → result ≡ digest function (message ++ text.now) };
 }
 
-impl Rehash<20> for sha1::Sha1 {
+impl HashFunction<20> for sha1::Sha1 {
     ghost use Rattle.picky_kdf.specs.declared.hash.Pkcs12HashAlgorithm.TheVariants.{Sha1};
+    ghost use Rattle.sha1.specs.Sha1.{Holds};
 
     ghost function = { Sha1 };
+
+    ghost holds = { Holds };
 
     fn rehashed(last: &[u8; 20]) -> [u8; 20] {
         sha1::Sha1::digest(last)
     }
+
+    #[inline(always)]
+    fn hash_after(&self, text: &[u8]) -> [u8; 20] {
+        let mut hasher = copied(self);
+        hasher.update(text);
+        hasher.finalize()
+    }
 }
 
-impl Rehash<28> for sha2::Sha224 {
+impl HashFunction<28> for sha2::Sha224 {
     ghost use Rattle.picky_kdf.specs.declared.hash.Pkcs12HashAlgorithm.TheVariants.{Sha224};
+    ghost use Rattle.sha2.specs.Hashers.{Holds224};
 
     ghost function = { Sha224 };
+
+    ghost holds = { Holds224 };
 
     fn rehashed(last: &[u8; 28]) -> [u8; 28] {
         sha2::Sha224::digest(last)
     }
+
+    #[inline(always)]
+    fn hash_after(&self, text: &[u8]) -> [u8; 28] {
+        let mut hasher = copied(self);
+        hasher.update(text);
+        hasher.finalize()
+    }
 }
 
-impl Rehash<32> for sha2::Sha256 {
+impl HashFunction<32> for sha2::Sha256 {
     ghost use Rattle.picky_kdf.specs.declared.hash.Pkcs12HashAlgorithm.TheVariants.{Sha256};
+    ghost use Rattle.sha2.specs.Hashers.{Holds256};
 
     ghost function = { Sha256 };
+
+    ghost holds = { Holds256 };
 
     fn rehashed(last: &[u8; 32]) -> [u8; 32] {
         sha2::Sha256::digest(last)
     }
+
+    #[inline(always)]
+    fn hash_after(&self, text: &[u8]) -> [u8; 32] {
+        let mut hasher = copied(self);
+        hasher.update(text);
+        hasher.finalize()
+    }
 }
 
-impl Rehash<48> for sha2::Sha384 {
+impl HashFunction<48> for sha2::Sha384 {
     ghost use Rattle.picky_kdf.specs.declared.hash.Pkcs12HashAlgorithm.TheVariants.{Sha384};
+    ghost use Rattle.sha2.specs.Hashers.{Holds384};
 
     ghost function = { Sha384 };
+
+    ghost holds = { Holds384 };
 
     fn rehashed(last: &[u8; 48]) -> [u8; 48] {
         sha2::Sha384::digest(last)
     }
+
+    #[inline(always)]
+    fn hash_after(&self, text: &[u8]) -> [u8; 48] {
+        let mut hasher = copied(self);
+        hasher.update(text);
+        hasher.finalize()
+    }
 }
 
-impl Rehash<64> for sha2::Sha512 {
+impl HashFunction<64> for sha2::Sha512 {
     ghost use Rattle.picky_kdf.specs.declared.hash.Pkcs12HashAlgorithm.TheVariants.{Sha512};
+    ghost use Rattle.sha2.specs.Hashers.{Holds512};
 
     ghost function = { Sha512 };
 
+    ghost holds = { Holds512 };
+
     fn rehashed(last: &[u8; 64]) -> [u8; 64] {
         sha2::Sha512::digest(last)
+    }
+
+    #[inline(always)]
+    fn hash_after(&self, text: &[u8]) -> [u8; 64] {
+        let mut hasher = copied(self);
+        hasher.update(text);
+        hasher.finalize()
     }
 }

@@ -35,8 +35,8 @@ fn masked(block: &[u8; 128], pad: u8) -> [u8; 128]
 // The two hashers of HMAC under one key, which have taken in the key's padded blocks.
 #[derive(Drop)]
 pub(crate) struct KeyedHashers {
-    inner: Hasher,
-    outer: Hasher,
+    pub(crate) inner: Hasher,
+    pub(crate) outer: Hasher,
 }
 
 impl KeyedHashers {
@@ -55,7 +55,6 @@ impl KeyedHashers {
     }
 
     // The HMAC of `message`, in the front of an array.
-    #[inline(always)]
     pub(crate) fn mac(&self, hash: Pkcs12HashAlgorithm, message: &[u8]) -> [u8; 64]
         ensures { (key : List ℕ) → IsKeyed hash self.now key
             → take (digest_size hash) result ≡ hmac hash key message.now }

@@ -4,7 +4,7 @@ ghost use Rattle.std.specs.Prelude.{◌≡◌, ◌≤◌, ◌<◌, ◌+◌, ◌-
 ghost use Rattle.picky_kdf.specs.Hash.{digest_size};
 ghost use Rattle.picky_kdf.specs.Pkcs12Kdf.{cycled, hashed, pbkdf1, raised, raised_blocks, repeated, usage_id};
 
-use crate::hash::{Hasher, Pkcs12HashAlgorithm, Rehash};
+use crate::hash::{HashFunction, Hasher, Pkcs12HashAlgorithm};
 use crate::pkcs5::parts_for;
 use sha1::Sha1;
 use sha2::{Sha224, Sha256, Sha384, Sha512};
@@ -58,7 +58,7 @@ fn cycled(text: &[u8]) -> [u8; 128]
 }
 
 // Hashes the hash in the front of an array again and again.
-fn rehash<H: Rehash<N>, const N: usize>(front: &mut [u8; 64], times: usize)
+fn rehash<H: HashFunction<N>, const N: usize>(front: &mut [u8; 64], times: usize)
     requires { N ≤ 64 }
     ensures { (text : List ℕ) → (n : ℕ) → take N front.old ≡ hashed H.function text n
         → take N front.new ≡ hashed H.function text (n + times) }

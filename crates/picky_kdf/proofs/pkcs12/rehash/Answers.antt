@@ -9,5 +9,5 @@ loop-done-preserved g c = record {
   size = search rules;
   hashed = λ text n h.
       let more : suc (n + c.loop-done.done) ≡ n + (c.loop-done.done + 1) = omega arith in
-      c.rehashed-last.ensures ∙ ap (digest g.H.Rehash.function) (c.loop-done.invariant.hashed text n h) ∙ ap (hashed g.H.Rehash.function text) more;
+      c.rehashed-last.ensures ∙ ap (digest g.H.HashFunction.function) (c.loop-done.invariant.hashed text n h) ∙ ap (hashed g.H.HashFunction.function text) more;
 }

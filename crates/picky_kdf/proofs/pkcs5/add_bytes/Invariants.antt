@@ -3,4 +3,4 @@ use Rattle.picky_contract.specs.Sums.{add_bytes}
 use Rattle.picky_kdf.proofs.pkcs5.add_bytes.Given as goal
 
 abbrev pub invariant-loop-i : goal.invariant-loop-i
-invariant-loop-i l = l.sum ≡ add_bytes (take l.i l.fn.sum) (take l.i l.mac) ++ drop l.i l.fn.sum
+invariant-loop-i g l = l.sum ≡ add_bytes (take l.i l.fn.sum) (take l.i l.mac) ++ drop l.i l.fn.sum
